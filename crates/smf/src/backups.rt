@@ -5,8 +5,15 @@ use smf_lines::TextWriter;
 use smf_program::{tell_no_database, tell_no_memory};
 use std::fs::File;
 use std::io::Write;
+use std::os::unix::fs::OpenOptionsExt;
 use std::path::Path;
 use std::{fs, io};
+
+/// The mode of a copy that others may read, as far as they may read files of this user.
+pub(crate) const SHARED: u32 = 0o666;
+
+/// The mode of a copy for its owner alone.
+pub(crate) const OWN: u32 = 0o600;
 
 /// The status if no copy was written.
 const REFUSED: u8 = 1;
@@ -43,9 +50,14 @@ fn whole_copy(rt: &HostRuntime, database: &str) -> Result<Vec<u8>, u8> {
 }
 
 /// Writes bytes into a file that nobody sees before it is whole and on the disk. A file of that name is replaced.
-fn write_whole(rt: &HostRuntime, path: &str, bytes: &[u8]) -> io::Result<()> {
+fn write_whole(rt: &HostRuntime, path: &str, mode: u32, bytes: &[u8]) -> io::Result<()> {
     let part = format!(in rt.alloc(); "{path}.part")?;
-    let mut file = File::create(rt, part.as_str())?;
+    let mut file = File::options()
+        .write(true)
+        .create(true)
+        .truncate(true)
+        .mode(mode)
+        .open(rt, part.as_str())?;
     file.write_all(bytes)?;
     file.sync_all()?;
     fs::rename(rt, part.as_str(), path)?;
@@ -56,14 +68,14 @@ fn write_whole(rt: &HostRuntime, path: &str, bytes: &[u8]) -> io::Result<()> {
     File::open(rt, folder)?.sync_all()
 }
 
-/// Writes a whole copy of the database in a file into another file.
-pub(crate) fn backup_over(rt: &HostRuntime, database: &str, copy: &str) -> u8 {
+/// Writes a whole copy of the database in a file into another file, which gets this mode if it is new.
+pub(crate) fn copy_database(rt: &HostRuntime, database: &str, copy: &str, mode: u32) -> u8 {
     let bytes = match whole_copy(rt, database) {
         Ok(bytes) => bytes,
         Err(status) => return status,
     };
     let mut errors = rt.stderr();
-    match write_whole(rt, copy, bytes.as_slice()) {
+    match write_whole(rt, copy, mode, bytes.as_slice()) {
         Ok(()) => 0,
         Err(why) => match format!(in rt.alloc(); "smf: {copy}: {why}\n") {
             Ok(text) => {

@@ -1,5 +1,7 @@
 // Scripts over a database, with contracts that are followed through forks.
+use crate::questions::ask_behind;
 use smf_cfg::tell;
+use smf_database::close;
 use smf_follow::{Contracts, FollowedKids};
 use smf_host::{
     Database, RoomHold, close_room, end_listed, form_text, note_run, room_text, take_room,
@@ -23,12 +25,18 @@ pub(crate) fn begin_text(fault: &BeginFault) -> &'static str {
 /// of the system together with the children takes far longer.
 fn serve<C: Contracts + Drop>(
     rt: &HostRuntime,
+    question: Option<&str>,
     database: Database,
     contracts: C,
 ) -> io::Result<u8> {
     let alloc = rt.alloc();
-    let mut reader = NotedReader::new(BufReader::new(alloc, rt.reader())?);
     let mut kids = FollowedKids::new(alloc, contracts);
+    if let Some(question) = question {
+        let served = ask_behind(rt, database.into_connection(), &mut kids, question);
+        let Closed { status, files: _ } = close(served, &mut rt.stderr());
+        return Ok(status);
+    }
+    let mut reader = NotedReader::new(BufReader::new(alloc, rt.reader())?);
     let Closed { status, files: _ } = serve_file(
         alloc,
         database.into_connection(),
@@ -41,7 +49,12 @@ fn serve<C: Contracts + Drop>(
 }
 
 /// Does a script with the contracts of a room. What an older life left there is ended first.
-fn follow(rt: &HostRuntime, database: Database, hold: RoomHold<'_>) -> io::Result<u8> {
+fn follow(
+    rt: &HostRuntime,
+    question: Option<&str>,
+    database: Database,
+    hold: RoomHold<'_>,
+) -> io::Result<u8> {
     let RoomHold {
         folder,
         path,
@@ -51,7 +64,7 @@ fn follow(rt: &HostRuntime, database: Database, hold: RoomHold<'_>) -> io::Resul
     match boot(rt.alloc(), folder, Manner::AtOnce) {
         Ok(contracts) => {
             eprintln!(rt; "{}", form_text(&groups))?;
-            let status = serve(rt, database, contracts)?;
+            let status = serve(rt, question, database, contracts)?;
             close_room(rt, path.as_str(), &groups);
             Ok(status)
         }
@@ -60,7 +73,7 @@ fn follow(rt: &HostRuntime, database: Database, hold: RoomHold<'_>) -> io::Resul
 }
 
 /// Does a script over the database in a file, with contracts that are followed.
-pub(crate) fn follow_over(rt: &HostRuntime, path: &str) -> io::Result<u8> {
+pub(crate) fn follow_over(rt: &HostRuntime, question: Option<&str>, path: &str) -> io::Result<u8> {
     let mut errors = rt.stderr();
     let database = match Database::open(rt, path) {
         Ok(database) => database,
@@ -70,7 +83,7 @@ pub(crate) fn follow_over(rt: &HostRuntime, path: &str) -> io::Result<u8> {
         return Ok(status);
     }
     match take_room(rt, path) {
-        Ok(hold) => follow(rt, database, hold),
+        Ok(hold) => follow(rt, question, database, hold),
         Err(fault) => Ok(tell(&mut errors, room_text(&fault))),
     }
 }

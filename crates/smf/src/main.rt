@@ -2,37 +2,46 @@
 //! a repository in memory, a copy in memory of a database, or a database and the processes of its services. This crate
 //! joins what the system has with what the crates below decide.
 //! Modules: `files` (databases in files), `sites` (files of tables), `exports` (what databases hold, as lines), `backups` (whole copies of databases), `shows` (what they hold, for people and for programs), `plans` (in which order their services would stop), `audits` (whether trails are safe), `contracts` (contracts that are followed through forks), `processes`
-//! (processes of the system), `server` (a service manager that stays), `boot` (boots that fail).
+//! (processes of the system), `questions` (what is asked behind scripts), `server` (a service manager that stays), `boot` (boots that fail), `beginnings` (how lives begin, as records have it),
+//! `records` (what stands in them), `replays` (records that are run again), `times` (times as people write them).
 #![tactic(auto)]
 
 mod audits;
 mod backups;
+mod beginnings;
 mod boot;
 mod contracts;
 mod exports;
 mod files;
 mod plans;
 mod processes;
+mod questions;
+mod records;
+mod replays;
 mod server;
 mod shows;
 mod sites;
+mod times;
 
 use crate::audits::audit_file;
-use crate::backups::backup_over;
+use crate::backups::{SHARED, copy_database};
 use crate::contracts::follow_over;
 use crate::exports::{diff_over, export_over};
 use crate::files::{cfg_over, check_over, sim_over, why_over};
 use crate::plans::plan_stop_over;
 use crate::processes::run_over;
+use crate::questions::ask_behind_sim;
+use crate::replays::replay_over;
 use crate::server::serve_over;
 use crate::shows::{prop_over, show_over};
 use crate::sites::compile;
 use sha2::{Digest, Sha256};
+use smf_ask::Client;
 use smf_edge::TableKids;
 use smf_host::{Hold, take_alone};
 use smf_lines::NotedReader;
 use smf_program::{
-    Refusal, Task, read_task, refusal_of_words, refuse, show_version, tell_no_memory,
+    AskForm, Refusal, Task, read_task, refusal_of_words, refuse, show_version, tell_no_memory,
 };
 use smf_serve::serve_sim;
 use std::io::BufReader;
@@ -53,12 +62,18 @@ fn sim(rt: &HostRuntime) -> io::Result<u8> {
     ))
 }
 
+/// Does a script in memory, over nothing or over what a database holds, and answers a question behind it, if there is one.
+fn sim_or_ask(rt: &HostRuntime, question: Option<&str>, database: Option<&str>) -> io::Result<u8> {
+    match (question, database) {
+        (Some(question), _) => Ok(ask_behind_sim(rt, question, database)),
+        (None, None) => sim(rt),
+        (None, Some(database)) => sim_over(rt, database),
+    }
+}
+
 fn do_task(rt: &HostRuntime, task: &Task<'_>) -> io::Result<u8> {
     match task {
-        Task::Sim { database: None } => sim(rt),
-        Task::Sim {
-            database: Some(database),
-        } => sim_over(rt, database),
+        Task::Sim { question, database } => sim_or_ask(rt, *question, *database),
         Task::Why { database, words } => Ok(why_over(rt, database, words.as_slice())),
         Task::Check { database } => Ok(check_over(rt, database)),
         Task::Compile { site } => Ok(compile(rt, site)),
@@ -85,10 +100,44 @@ fn do_task(rt: &HostRuntime, task: &Task<'_>) -> io::Result<u8> {
             database,
         } => Ok(plan_stop_over(rt, database, *patience, *timeout)),
         Task::Audit { trail } => Ok(audit_file(rt, trail)),
-        Task::Backup { database, copy } => Ok(backup_over(rt, database, copy)),
+        Task::Backup { database, copy } => Ok(copy_database(rt, database, copy, SHARED)),
         Task::Run { database, .. } => do_alone(rt, database, task),
         Task::Cfg { database, .. } => do_alone(rt, database, task),
-        Task::Serve { folder, database } => serve_over(rt, folder, database),
+        Task::Serve {
+            recording,
+            folder,
+            database,
+        } => serve_over(rt, *recording, folder, database),
+        Task::Replay {
+            until,
+            lines,
+            request,
+            recorded,
+        } => replay_over(rt, recorded, *until, *lines, *request),
+        Task::Ask {
+            form,
+            folder,
+            program,
+            words,
+        } => {
+            let client = Client {
+                folder,
+                program,
+                whole: form.whole,
+            };
+            Ok(ask(rt, *form, client, words.as_slice()))
+        }
+    }
+}
+
+/// Asks the server of a folder: by a line of words or by a script. Or it tells where the server is.
+fn ask(rt: &HostRuntime, form: AskForm, client: Client<'_>, words: &[&str]) -> u8 {
+    if form.place {
+        client.print_place(rt)
+    } else if form.script {
+        client.ask_script(rt)
+    } else {
+        client.ask_line(rt, words)
     }
 }
 
@@ -105,12 +154,14 @@ fn do_held(rt: &HostRuntime, task: &Task<'_>) -> io::Result<u8> {
     match task {
         Task::Run {
             follow: false,
+            question,
             database,
-        } => run_over(rt, database),
+        } => run_over(rt, *question, database),
         Task::Run {
             follow: true,
+            question,
             database,
-        } => follow_over(rt, database),
+        } => follow_over(rt, *question, database),
         Task::Cfg { lines, database } => cfg_over(rt, *lines, database),
         _ => Ok(0),
     }

@@ -1,4 +1,6 @@
 // Scripts over a database and processes of the system, whose children are listed beside it.
+use crate::questions::ask_behind;
+use smf_database::close;
 use smf_edge::OsKids;
 use smf_host::{Database, list_of, path_beside, place_of, tell_sweep};
 use smf_lines::NotedReader;
@@ -8,15 +10,22 @@ use smf_sweep::Lister;
 use std::io;
 use std::io::BufReader;
 
-/// Does a script over an open database, with children that are listed: an older run has ended.
+/// Does a script over an open database, with children that are listed: an older run has ended. A question may be answered
+/// behind it.
 fn run_listed(
     rt: &HostRuntime,
+    question: Option<&str>,
     database: Database,
     lister: &Lister<&HostRuntime>,
 ) -> io::Result<u8> {
     let alloc = rt.alloc();
-    let mut reader = NotedReader::new(BufReader::new(alloc, rt.reader())?);
     let mut kids = OsKids::new(alloc, lister, rt.stderr());
+    if let Some(question) = question {
+        let served = ask_behind(rt, database.into_connection(), &mut kids, question);
+        let Closed { status, files: _ } = close(served, &mut rt.stderr());
+        return Ok(status);
+    }
+    let mut reader = NotedReader::new(BufReader::new(alloc, rt.reader())?);
     let Closed { status, files: _ } = serve_file(
         alloc,
         database.into_connection(),
@@ -29,7 +38,7 @@ fn run_listed(
 }
 
 /// Does a script over the database in a file, with processes of the system. It first ends what an older run left.
-pub(crate) fn run_over(rt: &HostRuntime, path: &str) -> io::Result<u8> {
+pub(crate) fn run_over(rt: &HostRuntime, question: Option<&str>, path: &str) -> io::Result<u8> {
     let lock = path_beside(rt, path, "lock")?;
     let database = match Database::open(rt, path) {
         Ok(database) => database,
@@ -39,7 +48,7 @@ pub(crate) fn run_over(rt: &HostRuntime, path: &str) -> io::Result<u8> {
     let place = place_of(rt, path, lock)?;
     match Lister::take(rt.alloc(), rt, place) {
         Ok(mut lister) => {
-            let status = run_listed(rt, database, &lister)?;
+            let status = run_listed(rt, question, database, &lister)?;
             let _closed = lister.close();
             Ok(status)
         }

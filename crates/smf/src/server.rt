@@ -4,6 +4,8 @@ ghost use Rattle.smf_follow.specs.Beginnings.{found_posts};
 ghost use Rattle.smf_follow.specs.Phases.{posts};
 ghost use Rattle.std.specs.Prelude.{◌≡◌, map};
 
+use crate::backups::{OWN, copy_database};
+use crate::beginnings::{Beginning, beginning_text};
 use crate::boot::Tries;
 use crate::contracts::begin_text;
 use smf_cfg::tell;
@@ -13,37 +15,33 @@ use smf_edge::Kids;
 use smf_fmri::Number;
 use smf_follow::FollowedKids;
 use smf_host::{
-    Database, FileChronicle, FileDesk, FileEnder, Hold, RoomFault, RoomHold, SystemTimer,
-    TrailFile, close_room, end_listed, ender_in, folder_lock, forget_boot, form_text, has_booted,
-    new_causes, note_stay, older_causes, older_retries, path_beside, room_text, take_alone,
+    Database, FileChronicle, FileDesk, FileEnder, Hold, LentDesk, RecordFile, RecordedChronicle,
+    Recorder, RoomFault, RoomHold, SystemTimer, TrailFile, close_room, end_listed, ender_in,
+    folder_lock, forget_boot, form_text, has_booted, new_causes, note_stay, older_causes,
+    older_retries, path_beside, put_record_aside, record_database, room_text, take_alone,
     take_lock, take_room,
 };
 use smf_keeper::{Adopted, Manner, boot, go_on};
 use smf_model::{Journal, Plain};
 use smf_node::{ContinueFault, NodeFault};
 use smf_program::tell_no_database;
+use smf_record::{RecordedContracts, RecordedDesk, RecordedTimer};
 use smf_room::Room;
 use smf_server::{Leftover, Life, Onward, Unborn, Uncontinued, continue_over, stay_over};
 use smf_store::open_repository;
 use smf_watch::Retry;
 use sqlite::{Alter, Connection};
 use std::alloc::AllocError;
+use std::cell::RefCell;
 use std::io;
 
 /// Tells why nothing more was asked, if it was no request, and gives the status of the run.
 fn tell_end(rt: &HostRuntime, desk: &FileDesk<'_>) -> u8 {
-    match desk.failure() {
-        Some(text) => tell(&mut rt.stderr(), text),
-        None => 0,
+    if desk.has_failed() {
+        tell(&mut rt.stderr(), "smf: input failed")
+    } else {
+        0
     }
-}
-
-/// How a life begins: what is held boots, or it goes on with the contracts of an older life, of which the last had this id,
-/// and with its retries.
-#[derive(Drop)]
-enum Beginning {
-    Boots,
-    GoesOn(Number, Vec<Found>, Vec<Retry>),
 }
 
 /// A stay that is over, with the status of the run; or one that did not begin, and why.
@@ -89,21 +87,92 @@ fn not_continued<J: Journal + Drop, K: Kids + Drop>(
     }
 }
 
+/// Boots what a repository holds, and stays. It is recorded what is given to the server.
+fn live_from_boot<J: Journal + Drop, K: Kids + Drop>(
+    rt: &HostRuntime,
+    desk: &mut FileDesk<'_>,
+    chronicle: &mut FileChronicle<'_>,
+    ender: &mut FileEnder<'_>,
+    recorder: Recorder<'_>,
+    repository: Plain<J>,
+    kids: K,
+) -> Result<Life<J, K>, Unborn<J, K>> {
+    let mut desk = RecordedDesk {
+        desk: LentDesk { desk },
+        sink: recorder,
+    };
+    let mut chronicle = RecordedChronicle {
+        chronicle,
+        recorder,
+    };
+    let timer = RecordedTimer {
+        timer: SystemTimer { rt },
+        sink: recorder,
+    };
+    stay_over(
+        rt.alloc(),
+        &mut desk,
+        &mut chronicle,
+        &timer,
+        ender,
+        repository,
+        kids,
+    )
+}
+
+/// Goes on with what a repository holds and an older server left, and stays. It is recorded what is given to the server.
+fn live_on<J: Journal + Drop, K: Kids + Drop>(
+    rt: &HostRuntime,
+    desk: &mut FileDesk<'_>,
+    chronicle: &mut FileChronicle<'_>,
+    ender: &mut FileEnder<'_>,
+    recorder: Recorder<'_>,
+    repository: Plain<J>,
+    last: Number,
+    found: &[Found],
+    retries: &[Retry],
+    kids: K,
+) -> Result<Life<J, K>, Uncontinued<J, K>> {
+    let mut desk = RecordedDesk {
+        desk: LentDesk { desk },
+        sink: recorder,
+    };
+    let mut chronicle = RecordedChronicle {
+        chronicle,
+        recorder,
+    };
+    let timer = RecordedTimer {
+        timer: SystemTimer { rt },
+        sink: recorder,
+    };
+    continue_over(
+        rt.alloc(),
+        &mut desk,
+        &mut chronicle,
+        &timer,
+        ender,
+        repository,
+        last,
+        found,
+        retries,
+        kids,
+    )
+}
+
 /// Stays over what a repository holds, and children.
 fn stay<J: Journal + Drop, K: Kids + Drop>(
     rt: &HostRuntime,
     desk: &mut FileDesk<'_>,
     chronicle: &mut FileChronicle<'_>,
     ender: &mut FileEnder<'_>,
+    recorder: Recorder<'_>,
     beginning: &Beginning,
     repository: Plain<J>,
     kids: K,
 ) -> Stayed<J, K> {
-    let alloc = rt.alloc();
-    let timer = SystemTimer { rt };
     match beginning {
-        Beginning::Boots => match stay_over(
-            alloc, desk, chronicle, &timer, ender, repository, kids,
+        Beginning::Boots => match live_from_boot(
+            rt, desk, chronicle, ender, recorder, repository, kids,
         ) {
             Ok(life) => over(rt, desk, life),
             Err(
@@ -114,8 +183,8 @@ fn stay<J: Journal + Drop, K: Kids + Drop>(
                 },
             ) => Stayed::Unborn(fault, journal, kids),
         },
-        Beginning::GoesOn(last, found, retries) => match continue_over(
-            alloc, desk, chronicle, &timer, ender, repository, *last, found, retries, kids,
+        Beginning::GoesOn(last, found, retries) => match live_on(
+            rt, desk, chronicle, ender, recorder, repository, *last, found, retries, kids,
         ) {
             Ok(life) => over(rt, desk, life),
             Err(uncontinued) => not_continued(rt, uncontinued),
@@ -142,6 +211,7 @@ fn serve_store<S: Alter + Drop, K: Kids + Drop>(
     desk: &mut FileDesk<'_>,
     chronicle: &mut FileChronicle<'_>,
     ender: &mut FileEnder<'_>,
+    recorder: Recorder<'_>,
     beginning: &Beginning,
     conn: Connection<S>,
     kids: K,
@@ -157,7 +227,9 @@ fn serve_store<S: Alter + Drop, K: Kids + Drop>(
                 return (Onward::Leaves, Served { status, conn });
             }
         };
-        match stay(rt, desk, chronicle, ender, beginning, repository, kids) {
+        match stay(
+            rt, desk, chronicle, ender, recorder, beginning, repository, kids,
+        ) {
             Stayed::Over(status, how, journal) => {
                 let conn = journal.release();
                 return (how, Served { status, conn });
@@ -180,21 +252,25 @@ fn serve_with<K: Kids + Drop>(
     desk: &mut FileDesk<'_>,
     chronicle: &mut FileChronicle<'_>,
     ender: &mut FileEnder<'_>,
+    recorder: Recorder<'_>,
     beginning: &Beginning,
     database: Database,
     kids: K,
-) -> (Onward, u8) {
+) -> io::Result<(Onward, u8)> {
+    recorder.begin(beginning_text(rt.alloc(), beginning)?.as_str());
     let (how, served) = serve_store(
         rt,
         desk,
         chronicle,
         ender,
+        recorder,
         beginning,
         database.into_connection(),
         kids,
     );
+    recorder.close();
     let Closed { status, files: _ } = close(served, &mut rt.stderr());
-    (how, status)
+    Ok((how, status))
 }
 
 /// Boots, and stays. What an older server left is ended first.
@@ -205,6 +281,7 @@ fn serve_from_boot<'a, R: Room + Drop>(
     folder: R,
     room: &'a str,
     trail: TrailFile<'a>,
+    recorder: Recorder<'_>,
 ) -> io::Result<(Onward, u8)> {
     let alloc = rt.alloc();
     let contracts = match boot(alloc, folder, Manner::ByTerms) {
@@ -219,17 +296,22 @@ fn serve_from_boot<'a, R: Room + Drop>(
         trail,
     };
     let mut ender = ender_in(rt, room)?;
+    let contracts = RecordedContracts {
+        contracts,
+        sink: recorder,
+    };
     let kids = FollowedKids::new(alloc, contracts);
     let beginning = Beginning::Boots;
-    Ok(serve_with(
+    serve_with(
         rt,
         desk,
         &mut chronicle,
         &mut ender,
+        recorder,
         &beginning,
         database,
         kids,
-    ))
+    )
 }
 
 /// Goes on with contracts that were found, and stays.
@@ -240,6 +322,7 @@ fn serve_adopted<'a, R: Room + Drop>(
     adopted: Adopted<R>,
     room: &'a str,
     trail: TrailFile<'a>,
+    recorder: Recorder<'_>,
 ) -> io::Result<(Onward, u8)>
     requires ascend { Ascends 0 (map (λ f. f.id) adopted.found.items) adopted.last }
     requires kids { posts adopted.kids.items ≡ found_posts adopted.found.items }
@@ -250,6 +333,10 @@ fn serve_adopted<'a, R: Room + Drop>(
         kids,
         last,
     } = adopted;
+    let contracts = RecordedContracts {
+        contracts,
+        sink: recorder,
+    };
     let kids = match FollowedKids::found(rt.alloc(), contracts, last, &found, kids) {
         Ok(kids) => kids,
         Err(_) => return Err(io::Error::from(io::ErrorKind::OutOfMemory)),
@@ -260,15 +347,16 @@ fn serve_adopted<'a, R: Room + Drop>(
     };
     let mut ender = ender_in(rt, room)?;
     let beginning = Beginning::GoesOn(last, found, older_retries(rt, room)?);
-    Ok(serve_with(
+    serve_with(
         rt,
         desk,
         &mut chronicle,
         &mut ender,
+        recorder,
         &beginning,
         database,
         kids,
-    ))
+    )
 }
 
 /// Goes on with the contracts that an older server left, and stays.
@@ -279,9 +367,10 @@ fn serve_further<'a, R: Room + Drop>(
     folder: R,
     room: &'a str,
     trail: TrailFile<'a>,
+    recorder: Recorder<'_>,
 ) -> io::Result<(Onward, u8)> {
     match go_on(rt.alloc(), folder, Manner::ByTerms) {
-        Ok(adopted) => serve_adopted(rt, desk, database, adopted, room, trail),
+        Ok(adopted) => serve_adopted(rt, desk, database, adopted, room, trail, recorder),
         Err(fault) => {
             let status = tell(&mut rt.stderr(), begin_text(&fault));
             Ok((Onward::Leaves, status))
@@ -296,6 +385,7 @@ fn serve_in(
     database: Database,
     hold: RoomHold<'_>,
     trail: TrailFile<'_>,
+    kept: RecordFile,
 ) -> io::Result<u8> {
     let RoomHold {
         folder,
@@ -311,10 +401,12 @@ fn serve_in(
         }
     }
     eprintln!(rt; "{}", form_text(&groups))?;
+    let kept = RefCell::new(kept);
+    let recorder = Recorder { rt, shared: &kept };
     let (how, status) = if goes_on {
-        serve_further(rt, desk, database, folder, room, trail)?
+        serve_further(rt, desk, database, folder, room, trail, recorder)?
     } else {
-        serve_from_boot(rt, desk, database, folder, room, trail)?
+        serve_from_boot(rt, desk, database, folder, room, trail, recorder)?
     };
     if how == Onward::Ends {
         forget_boot(rt, room)?;
@@ -333,8 +425,38 @@ fn tell_broken(rt: &HostRuntime, served: io::Result<u8>) -> io::Result<u8> {
     }
 }
 
+/// A new record, with a copy of the database that this server has. None if the copy cannot be made, which was told.
+fn new_record(rt: &HostRuntime, record: &str, database: &str) -> io::Result<Option<RecordFile>> {
+    put_record_aside(rt, record)?;
+    let copy = record_database(rt, record)?;
+    if copy_database(rt, database, copy.as_str(), OWN) == 0 {
+        Ok(Some(RecordFile::create(rt, record)?))
+    } else {
+        Ok(None)
+    }
+}
+
+/// The record of this server, if one is wanted. If it cannot be made, that is told, and nothing is recorded.
+fn record_in(rt: &HostRuntime, record: Option<&str>, database: &str) -> RecordFile {
+    let Some(record) = record else {
+        return RecordFile::none(rt);
+    };
+    match new_record(rt, record, database) {
+        Ok(Some(record)) => record,
+        Ok(None) | Err(_) => {
+            let _told = eprintln!(rt; "smf: serve: nothing is recorded");
+            RecordFile::none(rt)
+        }
+    }
+}
+
 /// Stays over the database in a file.
-fn serve(rt: &HostRuntime, desk: &mut FileDesk<'_>, path: &str) -> io::Result<u8> {
+fn serve(
+    rt: &HostRuntime,
+    desk: &mut FileDesk<'_>,
+    record: Option<&str>,
+    path: &str,
+) -> io::Result<u8> {
     let mut errors = rt.stderr();
     let database = match Database::open(rt, path) {
         Ok(database) => database,
@@ -346,14 +468,22 @@ fn serve(rt: &HostRuntime, desk: &mut FileDesk<'_>, path: &str) -> io::Result<u8
     desk.set_probe(path_beside(rt, path, "room")?);
     let trail = TrailFile::new(rt, path_beside(rt, path, "trail")?);
     match take_room(rt, path) {
-        Ok(hold) => tell_broken(rt, serve_in(rt, desk, database, hold, trail)),
+        Ok(hold) => {
+            let record = record_in(rt, record, path);
+            tell_broken(rt, serve_in(rt, desk, database, hold, trail, record))
+        }
         Err(fault) => Ok(tell(&mut errors, room_text(&fault))),
     }
 }
 
 /// Stays, and does the requests that come in a folder over the database in a file, which no other program has then. The
 /// pipe is open before the folder's lock is taken, so a client that finds it taken is heard.
-pub(crate) fn serve_over(rt: &HostRuntime, folder: &str, path: &str) -> io::Result<u8> {
+pub(crate) fn serve_over(
+    rt: &HostRuntime,
+    record: Option<&str>,
+    folder: &str,
+    path: &str,
+) -> io::Result<u8> {
     let mut errors = rt.stderr();
     let Ok(mut desk) = FileDesk::open(rt, folder) else {
         return Ok(tell(&mut errors, "smf: serve: no pipe in this folder"));
@@ -365,7 +495,7 @@ pub(crate) fn serve_over(rt: &HostRuntime, folder: &str, path: &str) -> io::Resu
         return Ok(tell(&mut errors, "smf: serve: another server has this folder"));
     }
     match take_alone(rt, path)? {
-        Hold::Ours(_held) => serve(rt, &mut desk, path),
+        Hold::Ours(_held) => serve(rt, &mut desk, record, path),
         Hold::Refused(status) => Ok(status),
     }
 }

@@ -3,7 +3,7 @@ use Rattle.std.specs.Prelude.{◌≡◌, ℕ, List, [], ◌∷◌, codes, Some, 
 use Rattle.clap.specs.Words.{fault_of}
 use Rattle.clap.specs.declared.error.kind.ErrorKind.TheVariants as kinds
 use Rattle.smf_program.specs.Tasks.{metrics_listing, task_of}
-use Rattle.smf_program.specs.Tasks.TaskTexts.{Audit, Sim, Run, Cfg, Backup, Check, Compile, Diff, Export, PlanStop, Prop, Serve, Show, Why}
+use Rattle.smf_program.specs.Tasks.TaskTexts.{Ask, Audit, Backup, Cfg, Check, Compile, Diff, Export, PlanStop, Prop, Replay, Run, Serve, Show, Sim, Why}
 use Rattle.smf_program.specs.Words.{smf_app}
 
 -- the program's name is the first of its words
@@ -12,9 +12,12 @@ smf words = codes "smf" ∷ words
 
 abbrev pub TasksAreRead : Type 0
 TasksAreRead =
-    (task_of (smf (codes "sim" ∷ [])) ≡ Some (Sim None))
-    × (task_of (smf (codes "sim" ∷ codes "a.db" ∷ [])) ≡ Some (Sim (Some (codes "a.db"))))
-    × (task_of (smf (codes "run" ∷ codes "a.db" ∷ [])) ≡ Some (Run false (codes "a.db")))
+    (task_of (smf (codes "sim" ∷ [])) ≡ Some (Sim None None))
+    × (task_of (smf (codes "sim" ∷ codes "a.db" ∷ [])) ≡ Some (Sim None (Some (codes "a.db"))))
+    × (task_of (smf (codes "sim" ∷ codes "--why" ∷ codes "web" ∷ [])) ≡ Some (Sim (Some (codes "web")) None))
+    × (task_of (smf (codes "run" ∷ codes "a.db" ∷ [])) ≡ Some (Run false None (codes "a.db")))
+    × (task_of (smf (codes "run" ∷ codes "a.db" ∷ codes "--why" ∷ codes "web" ∷ []))
+    ≡ Some (Run false (Some (codes "web")) (codes "a.db")))
     × (task_of (smf (codes "cfg" ∷ codes "a.db" ∷ [])) ≡ Some (Cfg None (codes "a.db")))
 
 -- before the database or after it, joined or not
@@ -27,12 +30,19 @@ FilesAreRead =
 -- before the database or after it
 abbrev pub ContractsAreFollowed : Type 0
 ContractsAreFollowed =
-    (task_of (smf (codes "run" ∷ codes "--follow" ∷ codes "a.db" ∷ [])) ≡ Some (Run true (codes "a.db")))
-    × (task_of (smf (codes "run" ∷ codes "a.db" ∷ codes "--follow" ∷ [])) ≡ Some (Run true (codes "a.db")))
+    (task_of (smf (codes "run" ∷ codes "--follow" ∷ codes "a.db" ∷ [])) ≡ Some (Run true None (codes "a.db")))
+    × (task_of (smf (codes "run" ∷ codes "a.db" ∷ codes "--follow" ∷ [])) ≡ Some (Run true None (codes "a.db")))
 
 abbrev pub ServersAreRead : Type 0
 ServersAreRead =
-    task_of (smf (codes "serve" ∷ codes "room" ∷ codes "a.db" ∷ [])) ≡ Some (Serve (codes "room") (codes "a.db"))
+    (task_of (smf (codes "ask" ∷ codes "room" ∷ codes "svcs" ∷ codes "--" ∷ codes "-H" ∷ codes "web" ∷ []))
+    ≡ Some (Ask (record { script = false; place = false; whole = false }) (codes "room") (codes "svcs") (codes "-H" ∷ codes "web" ∷ [])))
+    × (task_of (smf (codes "serve" ∷ codes "room" ∷ codes "a.db" ∷ []))
+    ≡ Some (Serve None (codes "room") (codes "a.db")))
+    × (task_of (smf (codes "serve" ∷ codes "room" ∷ codes "a.db" ∷ codes "--record" ∷ codes "x" ∷ []))
+    ≡ Some (Serve (Some (codes "x")) (codes "room") (codes "a.db")))
+    × (task_of (smf (codes "replay" ∷ codes "x" ∷ codes "--then" ∷ codes "svcs" ∷ []))
+    ≡ Some (Replay None None (Some (codes "svcs")) (codes "x")))
 
 abbrev pub QuestionsAreRead : Type 0
 QuestionsAreRead =

@@ -3,6 +3,7 @@ use Rattle.std.specs.Prelude.{ℕ, List, [], ◌∷◌, map, Bool, true, false, 
 use Rattle.std.specs.Cmp.Lexicographic.{pointwise}
 use Rattle.clap.specs.Words.{Kinds, Row, all_of, fault_of, first_of, found_of, rows_of, subcommand_of}
 use Rattle.clap.specs.declared.parser.matches.ArgMatches.{ArgMatches}
+use Rattle.smf_program.specs.declared.task.AskForm.{AskForm}
 use Rattle.smf_program.specs.declared.task.Lead.{Lead}
 use Rattle.smf_program.specs.declared.task.Listing.{Listing}
 use Rattle.smf_program.specs.declared.task.Task.{Task}
@@ -23,10 +24,10 @@ pub record ListingTexts : Type 0 where
 
 -- a task by its texts
 pub data TaskTexts : Type 0 where
-  Sim : Option (List ℕ) → TaskTexts
-  Run : Bool → List ℕ → TaskTexts
+  Sim : Option (List ℕ) → Option (List ℕ) → TaskTexts
+  Run : Bool → Option (List ℕ) → List ℕ → TaskTexts
   Cfg : Option (List ℕ) → List ℕ → TaskTexts
-  Serve : List ℕ → List ℕ → TaskTexts
+  Serve : Option (List ℕ) → List ℕ → List ℕ → TaskTexts
   Why : List ℕ → List (List ℕ) → TaskTexts
   Check : List ℕ → TaskTexts
   Compile : List ℕ → TaskTexts
@@ -37,6 +38,8 @@ pub data TaskTexts : Type 0 where
   Prop : Bool → Option (List ℕ) → List ℕ → List (List ℕ) → TaskTexts
   PlanStop : Option (List ℕ) → Option (List ℕ) → List ℕ → TaskTexts
   Audit : List ℕ → TaskTexts
+  Ask : AskForm → List ℕ → List ℕ → List (List ℕ) → TaskTexts
+  Replay : Option (List ℕ) → Option (List ℕ) → Option (List ℕ) → List ℕ → TaskTexts
 
 abbrev pub listing_texts : Listing → ListingTexts
 listing_texts l =
@@ -53,10 +56,12 @@ listing_texts l =
     }
 
 abbrev pub texts_of : Task → TaskTexts
-texts_of (tasks.Sim database) = Sim (option_map (λ s. s.now) database)
-texts_of (tasks.Run follow database) = Run follow database.now
+texts_of (tasks.Sim question database) =
+    Sim (option_map (λ s. s.now) question) (option_map (λ s. s.now) database)
+texts_of (tasks.Run follow question database) = Run follow (option_map (λ s. s.now) question) database.now
 texts_of (tasks.Cfg lines database) = Cfg (option_map (λ s. s.now) lines) database.now
-texts_of (tasks.Serve folder database) = Serve folder.now database.now
+texts_of (tasks.Serve recording folder database) =
+    Serve (option_map (λ s. s.now) recording) folder.now database.now
 texts_of (tasks.Why database words) = Why database.now (map (λ w. w.now) words.items)
 texts_of (tasks.Check database) = Check database.now
 texts_of (tasks.Compile site) = Compile site.now
@@ -70,15 +75,19 @@ texts_of (tasks.Prop configured name database words) =
 texts_of (tasks.PlanStop patience timeout database) =
     PlanStop (option_map (λ s. s.now) patience) (option_map (λ s. s.now) timeout) database.now
 texts_of (tasks.Audit trail) = Audit trail.now
+texts_of (tasks.Ask form folder program words) = Ask form folder.now program.now (map (λ w. w.now) words.items)
+texts_of (tasks.Replay until lines request recorded) =
+    Replay (option_map (λ s. s.now) until) (option_map (λ s. s.now) lines) (option_map (λ s. s.now) request) recorded.now
 
 abbrev pub rows_in : ArgMatches → List Row
 rows_in m = rows_of (found_of m)
 
 abbrev pub sim_in : List Row → Option TaskTexts
-sim_in rows = Some (Sim (first_of (codes "DB") rows))
+sim_in rows = Some (Sim (first_of (codes "WHY") rows) (first_of (codes "DB") rows))
 
 abbrev pub run_in : List Row → Option TaskTexts
-run_in rows = option_map (Run (is_set (codes "FOLLOW") rows)) (first_of (codes "DB") rows)
+run_in rows =
+    option_map (Run (is_set (codes "FOLLOW") rows) (first_of (codes "WHY") rows)) (first_of (codes "DB") rows)
 
 abbrev pub cfg_in : List Row → Option TaskTexts
 cfg_in rows = option_map (Cfg (first_of (codes "FILE") rows)) (first_of (codes "DB") rows)
@@ -89,7 +98,8 @@ both task None second = None
 both task (Some first) second = option_map (task first) second
 
 abbrev pub serve_in : List Row → Option TaskTexts
-serve_in rows = both Serve (first_of (codes "RUN") rows) (first_of (codes "DB") rows)
+serve_in rows =
+    both (Serve (first_of (codes "RECORD") rows)) (first_of (codes "RUN") rows) (first_of (codes "DB") rows)
 
 -- the words that mean instances, none if there are none
 abbrev pub words_in : List Row → List (List ℕ)
@@ -170,6 +180,25 @@ plan_stop_in rows =
 abbrev pub audit_in : List Row → Option TaskTexts
 audit_in rows = option_map Audit (first_of (codes "TRAIL") rows)
 
+abbrev pub ask_form_in : List Row → AskForm
+ask_form_in rows =
+    record {
+      script = is_set (codes "SCRIPT") rows;
+      place = is_set (codes "PLACE") rows;
+      whole = is_set (codes "WHOLE") rows;
+    }
+
+abbrev pub ask_in : List Row → Option TaskTexts
+ask_in rows =
+    both (λ folder program. Ask (ask_form_in rows) folder program (words_in rows)) (first_of (codes "RUN") rows)
+    (first_of (codes "PROGRAM") rows)
+
+abbrev pub replay_in : List Row → Option TaskTexts
+replay_in rows =
+    option_map
+    (Replay (first_of (codes "UNTIL") rows) (first_of (codes "WITH") rows) (first_of (codes "THEN") rows))
+    (first_of (codes "RECORD") rows)
+
 -- the task of a subcommand, by its name and by the rows of the words after it
 abbrev pub task_at : List ℕ → List Row → Option TaskTexts
 task_at name rows =
@@ -188,6 +217,8 @@ task_at name rows =
     else if pointwise nat_eq name (codes "plan-stop") then plan_stop_in rows
     else if pointwise nat_eq name (codes "metrics") then metrics_in rows
     else if pointwise nat_eq name (codes "audit") then audit_in rows
+    else if pointwise nat_eq name (codes "ask") then ask_in rows
+    else if pointwise nat_eq name (codes "replay") then replay_in rows
     else None
 
 abbrev pub task_in : Option (List ℕ × List Row) → Option TaskTexts

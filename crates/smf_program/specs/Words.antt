@@ -22,11 +22,15 @@ database_rule = record (new_rule (codes "DB")) { required = true }
 abbrev pub read_rule : Rule
 read_rule = new_rule (codes "DB")
 
+-- `--why FMRI`: behind the script is printed on what evidence these instances were started and stopped last
+abbrev pub question_rule : Rule
+question_rule = record (new_rule (codes "WHY")) { long = Some (codes "why") }
+
 abbrev pub sim_app : App
-sim_app = with_rule (new_app (codes "sim")) read_rule
+sim_app = with_rule (with_rule (new_app (codes "sim")) question_rule) read_rule
 
 abbrev pub run_app : App
-run_app = with_rule (with_rule (new_app (codes "run")) follow_rule) database_rule
+run_app = with_rule (with_rule (with_rule (new_app (codes "run")) follow_rule) question_rule) database_rule
 
 abbrev pub cfg_app : App
 cfg_app = with_rule (with_rule (new_app (codes "cfg")) file_rule) database_rule
@@ -35,8 +39,12 @@ cfg_app = with_rule (with_rule (new_app (codes "cfg")) file_rule) database_rule
 abbrev pub folder_rule : Rule
 folder_rule = record (new_rule (codes "RUN")) { required = true }
 
+-- `--record FILE`: it is recorded there what is given to the server
+abbrev pub record_rule : Rule
+record_rule = record (new_rule (codes "RECORD")) { long = Some (codes "record") }
+
 abbrev pub serve_app : App
-serve_app = with_rule (with_rule (new_app (codes "serve")) folder_rule) database_rule
+serve_app = with_rule (with_rule (with_rule (new_app (codes "serve")) record_rule) folder_rule) database_rule
 
 -- the words that mean instances, as many as there are
 abbrev pub fmri_rule : Rule
@@ -164,7 +172,45 @@ trail_rule = record (new_rule (codes "TRAIL")) { required = true }
 abbrev pub audit_app : App
 audit_app = with_rule (new_app (codes "audit")) trail_rule
 
--- one of the fifteen has to be named, or the version is asked for
+-- the folder of the server that is there, and not an answer of it
+abbrev pub place_rule : Rule
+place_rule = record (new_rule (codes "PLACE")) { long = Some (codes "place"); action = Some SetTrue }
+
+-- an answer as it is
+abbrev pub whole_rule : Rule
+whole_rule = record (new_rule (codes "WHOLE")) { long = Some (codes "whole"); action = Some SetTrue }
+
+-- the program for which a server is asked
+abbrev pub program_rule : Rule
+program_rule = record (new_rule (codes "PROGRAM")) { required = true }
+
+abbrev pub form_of_ask_app : App
+form_of_ask_app = with_rule (with_rule (with_rule (new_app (codes "ask")) script_rule) place_rule) whole_rule
+
+abbrev pub ask_app : App
+ask_app = with_rule (with_rule (with_rule form_of_ask_app folder_rule) program_rule) fmri_rule
+
+-- the time after which nothing is run again, a file of lines that are done before, and a line that is asked at the end
+abbrev pub until_rule : Rule
+until_rule = record (new_rule (codes "UNTIL")) { long = Some (codes "until") }
+
+abbrev pub with_lines_rule : Rule
+with_lines_rule = record (new_rule (codes "WITH")) { long = Some (codes "with") }
+
+abbrev pub request_rule : Rule
+request_rule = record (new_rule (codes "THEN")) { long = Some (codes "then") }
+
+-- the record of a server
+abbrev pub recorded_rule : Rule
+recorded_rule = record (new_rule (codes "RECORD")) { required = true }
+
+abbrev pub replayed_app : App
+replayed_app = with_rule (with_rule (with_rule (new_app (codes "replay")) until_rule) with_lines_rule) request_rule
+
+abbrev pub replay_app : App
+replay_app = with_rule replayed_app recorded_rule
+
+-- one of the seventeen has to be named, or the version is asked for
 abbrev pub bare_app : App
 bare_app = on_top (λ s. record s { subcommand_required = true; has_version = true }) (new_app (codes "smf"))
 
@@ -187,10 +233,14 @@ smf_app =
     with_subcommand
     (with_subcommand
     (with_subcommand
+    (with_subcommand
+    (with_subcommand
     (with_subcommand (with_subcommand (with_subcommand asking_app compile_app.top) export_app.top) diff_app.top)
     backup_app.top)
     metrics_app.top)
-    audit_app.top
+    audit_app.top)
+    replay_app.top)
+    ask_app.top
 
 -- true if a flag was found
 abbrev pub is_set : List ℕ → List Row → Bool

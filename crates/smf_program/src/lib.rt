@@ -13,4 +13,4 @@ mod words;
 pub use law::words_are_read_so;
 pub use messages::{tell_no_database, tell_no_input, tell_no_memory};
 pub use refusal::{Refusal, refusal_of_words, refuse, show_version};
-pub use task::{Lead, Listing, Task, read_task};
+pub use task::{AskForm, Lead, Listing, Task, read_task};

@@ -3,7 +3,7 @@ ghost use Rattle.std.specs.String.{string_bytes};
 ghost use Rattle.clap.specs.Words.{HasKind, app_of, fault_of, first_of, is_simple, is_simple_and_free, subcommand_of, subcommand_rows_of};
 ghost use Rattle.smf_program.specs.Refusals.{IsWhy};
 ghost use Rattle.smf_program.specs.Words.{is_set};
-ghost use Rattle.smf_program.specs.Tasks.{audit_in, backup_in, cfg_in, check_in, compile_in, diff_in, export_in, lead_in, listing_in, listing_texts, metrics_in, metrics_listing, plan_stop_in, prop_in, rows_in, show_in, run_in, serve_in, sim_in, task_at, task_in, task_of, texts_of, why_in, words_in};
+ghost use Rattle.smf_program.specs.Tasks.{ask_form_in, ask_in, audit_in, backup_in, cfg_in, check_in, compile_in, diff_in, export_in, lead_in, listing_in, listing_texts, metrics_in, metrics_listing, plan_stop_in, prop_in, replay_in, rows_in, run_in, serve_in, show_in, sim_in, task_at, task_in, task_of, texts_of, why_in, words_in};
 
 use crate::refusal::{Refusal, refusal_of};
 use crate::words::smf_command;
@@ -44,16 +44,30 @@ pub struct Lead {
     pub undo: bool,
 }
 
+/// How a server is asked.
+#[derive(Clone, Copy)]
+pub struct AskForm {
+    /// By the script of standard input, and not by a line of words.
+    pub script: bool,
+    /// Not at all: only its folder is printed.
+    pub place: bool,
+    /// So that the answer is printed as it is.
+    pub whole: bool,
+}
+
 /// The task that the program's words ask for.
 #[derive(Drop)]
 pub enum Task<'a> {
     /// A script in memory: over nothing, or over what the database in a file holds, which is only read.
+    /// Behind it may be asked why the instances of a word were started and stopped.
     Sim {
+        question: Option<&'a str>,
         database: Option<&'a str>,
     },
-    /// A script over the database in a file, with contracts that are followed through forks or not.
+    /// A script over the database in a file, with contracts that are followed through forks or not, and the same question.
     Run {
         follow: bool,
+        question: Option<&'a str>,
         database: &'a str,
     },
     /// Lines of svccfg, of a file or of standard input, over the database in a file.
@@ -61,8 +75,10 @@ pub enum Task<'a> {
         lines: Option<&'a str>,
         database: &'a str,
     },
-    /// Requests that come in a folder, over the database in a file.
+    /// Requests that come in a folder, over the database in a file. What is given to the server is recorded, if a file is
+    /// named for that.
     Serve {
+        recording: Option<&'a str>,
         folder: &'a str,
         database: &'a str,
     },
@@ -123,6 +139,21 @@ pub enum Task<'a> {
     Audit {
         trail: &'a str,
     },
+    /// The answer of the server that has a folder, to the words of a program or to a script.
+    Ask {
+        form: AskForm,
+        folder: &'a str,
+        program: &'a str,
+        words: Vec<&'a str>,
+    },
+    /// A server that runs again over what was recorded of it, up to a time. The lines of a file may be done before, and a line
+    /// may be asked at the end.
+    Replay {
+        until: Option<&'a str>,
+        lines: Option<&'a str>,
+        request: Option<&'a str>,
+        recorded: &'a str,
+    },
 }
 
 /// True if a flag was found.
@@ -138,16 +169,22 @@ fn is_set<'a>(found: &ArgMatches<'a>, id: &str) -> bool
 fn sim_in<'a>(found: &ArgMatches<'a>) -> Option<Task<'a>>
     ensures { option_map texts_of result ≡ sim_in (rows_in found.now) }
 {
-    let database = found.get_str("DB");
-    Some(Task::Sim { database })
+    let question = text_in(found, "WHY");
+    let database = text_in(found, "DB");
+    Some(Task::Sim { question, database })
 }
 
 fn run_in<'a>(found: &ArgMatches<'a>) -> Option<Task<'a>>
     ensures { option_map texts_of result ≡ run_in (rows_in found.now) }
 {
     let follow = is_set(found, "FOLLOW");
-    match found.get_str("DB") {
-        Some(database) => Some(Task::Run { follow, database }),
+    let question = text_in(found, "WHY");
+    match text_in(found, "DB") {
+        Some(database) => Some(Task::Run {
+            follow,
+            question,
+            database,
+        }),
         None => None,
     }
 }
@@ -165,9 +202,14 @@ fn cfg_in<'a>(found: &ArgMatches<'a>) -> Option<Task<'a>>
 fn serve_in<'a>(found: &ArgMatches<'a>) -> Option<Task<'a>>
     ensures { option_map texts_of result ≡ serve_in (rows_in found.now) }
 {
+    let recording = text_in(found, "RECORD");
     match found.get_str("RUN") {
         Some(folder) => match found.get_str("DB") {
-            Some(database) => Some(Task::Serve { folder, database }),
+            Some(database) => Some(Task::Serve {
+                recording,
+                folder,
+                database,
+            }),
             None => None,
         },
         None => None,
@@ -381,6 +423,52 @@ fn audit_in<'a>(found: &ArgMatches<'a>) -> Option<Task<'a>>
     }
 }
 
+fn ask_form_in<'a>(found: &ArgMatches<'a>) -> AskForm
+    ensures { result ≡ ask_form_in (rows_in found.now) }
+{
+    AskForm {
+        script: is_set(found, "SCRIPT"),
+        place: is_set(found, "PLACE"),
+        whole: is_set(found, "WHOLE"),
+    }
+}
+
+fn ask_in<'a>(alloc: Global, found: &ArgMatches<'a>) -> Result<Option<Task<'a>>, AllocError>
+    ensures { IfOk result (λ task. option_map texts_of task ≡ ask_in (rows_in found.now)) }
+{
+    let form = ask_form_in(found);
+    let words = words_in(alloc, found)?;
+    match text_in(found, "RUN") {
+        Some(folder) => match text_in(found, "PROGRAM") {
+            Some(program) => Ok(Some(Task::Ask {
+                form,
+                folder,
+                program,
+                words,
+            })),
+            None => Ok(None),
+        },
+        None => Ok(None),
+    }
+}
+
+fn replay_in<'a>(found: &ArgMatches<'a>) -> Option<Task<'a>>
+    ensures { option_map texts_of result ≡ replay_in (rows_in found.now) }
+{
+    let until = text_in(found, "UNTIL");
+    let lines = text_in(found, "WITH");
+    let request = text_in(found, "THEN");
+    match text_in(found, "RECORD") {
+        Some(recorded) => Some(Task::Replay {
+            until,
+            lines,
+            request,
+            recorded,
+        }),
+        None => None,
+    }
+}
+
 /// The task of a subcommand, by its name and by the words that clap found after it.
 fn task_at<'a>(
     alloc: Global,
@@ -405,6 +493,8 @@ fn task_at<'a>(
         "plan-stop" => Ok(plan_stop_in(found)),
         "metrics" => metrics_in(alloc, found),
         "audit" => Ok(audit_in(found)),
+        "ask" => ask_in(alloc, found),
+        "replay" => Ok(replay_in(found)),
         _ => Ok(None),
     }
 }

@@ -1,7 +1,7 @@
 ghost use Rattle.std.specs.Prelude.{◌≡◌, IfOk, false};
 ghost use Rattle.clap.specs.Words.{app_of, rule_of};
 ghost use Rattle.clap.specs.declared.builder.command.Command.TheViews.{out-Command as fields_of};
-ghost use Rattle.smf_program.specs.Words.{asking_app, audit_app, backup_app, bare_app, bare_rule, cfg_app, check_app, columns_rule, compile_app, configured_rule, copy_rule, database_rule, diff_app, exact_rule, export_app, falling_rule, file_rule, site_rule, fmri_rule, folder_rule, follow_rule, form_app, json_rule, lead_app, lines_rule, long_rule, method_timeout_rule, metrics_app, metrics_rule, name_rule, named_app, patience_rule, plan_stop_app, prop_app, read_rule, restarter_rule, rising_rule, run_app, running_app, script_rule, serve_app, show_app, shown_app, sim_app, smf_app, table_app, trail_rule, undo_rule, well_rule, why_app};
+ghost use Rattle.smf_program.specs.Words.{ask_app, asking_app, audit_app, backup_app, bare_app, bare_rule, cfg_app, check_app, columns_rule, compile_app, configured_rule, copy_rule, database_rule, diff_app, exact_rule, export_app, falling_rule, file_rule, fmri_rule, folder_rule, follow_rule, form_app, form_of_ask_app, json_rule, lead_app, lines_rule, long_rule, method_timeout_rule, metrics_app, metrics_rule, name_rule, named_app, patience_rule, place_rule, plan_stop_app, program_rule, prop_app, question_rule, read_rule, record_rule, recorded_rule, replay_app, replayed_app, request_rule, restarter_rule, rising_rule, run_app, running_app, script_rule, serve_app, show_app, shown_app, sim_app, site_rule, smf_app, table_app, trail_rule, undo_rule, until_rule, well_rule, whole_rule, why_app, with_lines_rule};
 
 use clap::{Arg, ArgAction, Command};
 use std::alloc::{AllocError, Global};
@@ -38,6 +38,14 @@ fn read_database<'a>(alloc: Global) -> Arg<'a>
     Arg::new(alloc, "DB")
 }
 
+/// The instances of which it is asked, behind a script, why they were started and stopped.
+fn question<'a>(alloc: Global) -> Arg<'a>
+    ensures rule { rule_of result ≡ question_rule }
+    ensures local { result.global ≡ false }
+{
+    Arg::new(alloc, "WHY").long("why")
+}
+
 fn sim_command<'a>(alloc: Global) -> Result<Command<'a>, AllocError>
     ensures app { IfOk result (λ c. app_of c ≡ sim_app) }
     ensures local { IfOk result (λ c. (fields_of c).has_globals ≡ false) }
@@ -46,6 +54,7 @@ fn sim_command<'a>(alloc: Global) -> Result<Command<'a>, AllocError>
         .about(
             "Does a script in memory, with simulated processes, over nothing or over what a database holds",
         )
+        .arg(question(alloc))?
         .arg(read_database(alloc))?;
     Ok(command)
 }
@@ -57,6 +66,7 @@ fn run_command<'a>(alloc: Global) -> Result<Command<'a>, AllocError>
     let command = Command::new(alloc, "run")
         .about("Does a script over a database, with the processes of its services")
         .arg(follow(alloc))?
+        .arg(question(alloc))?
         .arg(database(alloc))?;
     Ok(command)
 }
@@ -80,12 +90,21 @@ fn folder<'a>(alloc: Global) -> Arg<'a>
     Arg::new(alloc, "RUN").required(true)
 }
 
+/// The file in which it is recorded what is given to a server.
+fn record_file<'a>(alloc: Global) -> Arg<'a>
+    ensures rule { rule_of result ≡ record_rule }
+    ensures local { result.global ≡ false }
+{
+    Arg::new(alloc, "RECORD").long("record")
+}
+
 fn serve_command<'a>(alloc: Global) -> Result<Command<'a>, AllocError>
     ensures app { IfOk result (λ c. app_of c ≡ serve_app) }
     ensures local { IfOk result (λ c. (fields_of c).has_globals ≡ false) }
 {
     let command = Command::new(alloc, "serve")
         .about("Stays, and does the scripts that come in a folder, over a database")
+        .arg(record_file(alloc))?
         .arg(folder(alloc))?
         .arg(database(alloc))?;
     Ok(command)
@@ -457,6 +476,111 @@ fn audit_command<'a>(alloc: Global) -> Result<Command<'a>, AllocError>
     Ok(command)
 }
 
+/// The flag for the folder of the server that is there.
+fn place<'a>(alloc: Global) -> Arg<'a>
+    ensures rule { rule_of result ≡ place_rule }
+    ensures local { result.global ≡ false }
+{
+    Arg::new(alloc, "PLACE")
+        .long("place")
+        .action(ArgAction::SetTrue)
+}
+
+/// The flag for an answer as it is.
+fn whole<'a>(alloc: Global) -> Arg<'a>
+    ensures rule { rule_of result ≡ whole_rule }
+    ensures local { result.global ≡ false }
+{
+    Arg::new(alloc, "WHOLE")
+        .long("whole")
+        .action(ArgAction::SetTrue)
+}
+
+/// The program for which a server is asked.
+fn program<'a>(alloc: Global) -> Arg<'a>
+    ensures rule { rule_of result ≡ program_rule }
+    ensures local { result.global ≡ false }
+{
+    Arg::new(alloc, "PROGRAM").required(true)
+}
+
+/// How a server is asked.
+fn form_of_ask_command<'a>(alloc: Global) -> Result<Command<'a>, AllocError>
+    ensures app { IfOk result (λ c. app_of c ≡ form_of_ask_app) }
+    ensures local { IfOk result (λ c. (fields_of c).has_globals ≡ false) }
+{
+    let command = Command::new(alloc, "ask")
+        .about("Asks the server that has a folder, and prints its answer")
+        .arg(script(alloc))?
+        .arg(place(alloc))?
+        .arg(whole(alloc))?;
+    Ok(command)
+}
+
+fn ask_command<'a>(alloc: Global) -> Result<Command<'a>, AllocError>
+    ensures app { IfOk result (λ c. app_of c ≡ ask_app) }
+    ensures local { IfOk result (λ c. (fields_of c).has_globals ≡ false) }
+{
+    let command = form_of_ask_command(alloc)?
+        .arg(folder(alloc))?
+        .arg(program(alloc))?
+        .arg(fmris(alloc))?;
+    Ok(command)
+}
+
+/// The time after which nothing is run again.
+fn until<'a>(alloc: Global) -> Arg<'a>
+    ensures rule { rule_of result ≡ until_rule }
+    ensures local { result.global ≡ false }
+{
+    Arg::new(alloc, "UNTIL").long("until")
+}
+
+/// A file of lines that are done before.
+fn with_lines<'a>(alloc: Global) -> Arg<'a>
+    ensures rule { rule_of result ≡ with_lines_rule }
+    ensures local { result.global ≡ false }
+{
+    Arg::new(alloc, "WITH").long("with")
+}
+
+/// A line that is asked at the end.
+fn request<'a>(alloc: Global) -> Arg<'a>
+    ensures rule { rule_of result ≡ request_rule }
+    ensures local { result.global ≡ false }
+{
+    Arg::new(alloc, "THEN").long("then")
+}
+
+/// The record of a server.
+fn recorded<'a>(alloc: Global) -> Arg<'a>
+    ensures rule { rule_of result ≡ recorded_rule }
+    ensures local { result.global ≡ false }
+{
+    Arg::new(alloc, "RECORD").required(true)
+}
+
+/// How far it is run again, and what is done and asked besides.
+fn replayed_command<'a>(alloc: Global) -> Result<Command<'a>, AllocError>
+    ensures app { IfOk result (λ c. app_of c ≡ replayed_app) }
+    ensures local { IfOk result (λ c. (fields_of c).has_globals ≡ false) }
+{
+    let command = Command::new(alloc, "replay")
+        .about("Runs a server again over what was recorded, and says whether the trail is the same")
+        .arg(until(alloc))?
+        .arg(with_lines(alloc))?
+        .arg(request(alloc))?;
+    Ok(command)
+}
+
+fn replay_command<'a>(alloc: Global) -> Result<Command<'a>, AllocError>
+    ensures app { IfOk result (λ c. app_of c ≡ replay_app) }
+    ensures local { IfOk result (λ c. (fields_of c).has_globals ≡ false) }
+{
+    let command = replayed_command(alloc)?.arg(recorded(alloc))?;
+    Ok(command)
+}
+
 fn bare_command<'a>(alloc: Global) -> Command<'a>
     ensures { app_of result ≡ bare_app }
 {
@@ -499,9 +623,9 @@ fn asking_command<'a>(alloc: Global) -> Result<Command<'a>, AllocError>
 }
 
 /// The program as clap knows it. It may be asked for its version, which clap does not know. `sim` may have a database. `run` has one, and contracts may be followed.
-/// `cfg` has a database, and may have a file of lines after `-f`. `serve` has a folder and a database. `why`, `show`, `prop`
-/// and `export` have a database and words that mean instances. `check` and `plan-stop` have a database, `compile` and `audit` a file, and `diff` and
-/// `backup` both.
+/// `cfg` has a database, and may have a file of lines after `-f`. `serve` has a folder and a database, and may have a file of what is given to it. `why`, `show`, `prop`
+/// and `export` have a database and words that mean instances. `check` and `plan-stop` have a database, `compile`, `audit` and `replay` a file, and `diff` and
+/// `backup` both. `ask` has a folder, a program and words.
 pub(crate) fn smf_command<'a>(alloc: Global) -> Result<Command<'a>, AllocError>
     ensures { IfOk result (λ c. app_of c ≡ smf_app) }
 {
@@ -517,6 +641,10 @@ pub(crate) fn smf_command<'a>(alloc: Global) -> Result<Command<'a>, AllocError>
     let metrics = metrics_command(alloc)?;
     let with_metrics = with_backup.subcommand(metrics)?;
     let audit = audit_command(alloc)?;
-    let command = with_metrics.subcommand(audit)?;
+    let with_audit = with_metrics.subcommand(audit)?;
+    let replay = replay_command(alloc)?;
+    let with_replay = with_audit.subcommand(replay)?;
+    let ask = ask_command(alloc)?;
+    let command = with_replay.subcommand(ask)?;
     Ok(command)
 }

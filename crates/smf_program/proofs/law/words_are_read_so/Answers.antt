@@ -6,7 +6,7 @@ use Rattle.smf_program.proofs.law.words_are_read_so.Goals as goal
 
 pub returns-clause-tasks : goal.returns-clause-tasks
 unfolding task_of smf_app clap_on_literals
-returns-clause-tasks c = (refl, refl, refl, refl)
+returns-clause-tasks c = (refl, refl, refl, refl, refl, refl)
 
 pub returns-clause-files : goal.returns-clause-files
 unfolding task_of smf_app clap_on_literals
@@ -18,7 +18,7 @@ returns-clause-followed c = (refl, refl)
 
 pub returns-clause-served : goal.returns-clause-served
 unfolding task_of smf_app clap_on_literals
-returns-clause-served c = refl
+returns-clause-served c = (refl, refl, refl, refl)
 
 pub returns-clause-asked : goal.returns-clause-asked
 unfolding task_of smf_app clap_on_literals
