@@ -98,13 +98,17 @@ _smf_smf() {
     local word=$1
     shift 2
     case "${1:-} $word" in
-    ' '*) _smf_offer "$word" sim run cfg why check compile export diff backup show metrics prop plan-stop audit serve --version ;;
-    'run -'*) _smf_offer "$word" --follow ;;
+    ' '*) _smf_offer "$word" sim run cfg why check compile export diff backup show metrics prop plan-stop audit replay serve ask --version ;;
+    'sim -'*) _smf_offer "$word" --why ;;
+    'run -'*) _smf_offer "$word" --follow --why ;;
     'cfg -'*) _smf_offer "$word" -f ;;
     'diff -'*) _smf_offer "$word" --exact --script --undo ;;
+    'ask -'*) _smf_offer "$word" --script --whole --place ;;
     'show -'*) _smf_offer "$word" -j -l -H -o -s -S -R --json --long --metrics --well ;;
     'prop -'*) _smf_offer "$word" -c -p ;;
     'plan-stop -'*) _smf_offer "$word" --patience --method-timeout ;;
+    'replay -'*) _smf_offer "$word" --until --with --then ;;
+    'serve -'*) _smf_offer "$word" --record ;;
     *) _smf_files "$word" ;;
     esac
 }
@@ -113,7 +117,7 @@ _smf_smfd() {
     case "$2 $1" in
     '--log '*) _smf_offer "$1" stdout ;;
     '--method-timeout '*) COMPREPLY=() ;;
-    *' -'*) _smf_offer "$1" --boot --namespace --log --method-timeout ;;
+    *' -'*) _smf_offer "$1" --boot --namespace --log --method-timeout --record ;;
     *) _smf_files "$1" ;;
     esac
 }
