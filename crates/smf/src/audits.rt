@@ -1,6 +1,6 @@
 // Whether trails in files are safe: that of one script, or the chronicle of all servers of a database.
 use crate::exports::write_out;
-use smf_audit::{Breach, Entry, Rule, audit};
+use smf_audit::{Breach, Entry, audit};
 use smf_chronicle::{Chronicle, ReadFault, first_link, read_lines};
 use smf_lines::TextWriter;
 use smf_program::{tell_no_input, tell_no_memory};
@@ -20,16 +20,6 @@ struct Counts {
     items: u64,
     boots: u64,
     lives: u64,
-}
-
-fn rule_text(rule: Rule) -> &'static str {
-    match rule {
-        Rule::FoundLate => "found after the begin of a life",
-        Rule::TwoLive => "two live starts",
-        Rule::HeldUncommitted => "held and not committed",
-        Rule::CommittedTwice => "committed twice",
-        Rule::OffTheDiagram => "not along the diagram",
-    }
 }
 
 fn counts_of(entries: &[Entry]) -> Counts {
@@ -81,7 +71,7 @@ fn breach_text(
         line
     };
     let place = breach.place.saturating_add(1);
-    let rule = rule_text(breach.rule);
+    let rule = breach.rule.text();
     format!(in alloc; "line {place}: {rule}: {told}\n")
 }
 

@@ -2,3 +2,4 @@ pub mod Audit
 pub mod Breaches
 pub mod Lives
 pub mod Tables
+pub mod Texts

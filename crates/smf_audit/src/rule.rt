@@ -1,3 +1,6 @@
+ghost use Rattle.std.specs.Prelude.{◌≡◌};
+ghost use Rattle.smf_audit.specs.Texts.{rule_text};
+
 /// A rule of chronicles that an entry breaks. If it breaks two, the one that stands first here is told.
 #[derive(Clone, Copy, PartialEq, Eq)]
 pub enum Rule {
@@ -11,6 +14,21 @@ pub enum Rule {
     CommittedTwice,
     /// A state or a number does not follow on the one before.
     OffTheDiagram,
+}
+
+impl Rule {
+    /// What `smf audit` says of an entry that breaks the rule.
+    pub fn text(self) -> &'static str
+        ensures { result.now ≡ rule_text self }
+    {
+        match self {
+            Rule::FoundLate => "found after the begin of a life",
+            Rule::TwoLive => "two live starts",
+            Rule::HeldUncommitted => "held and not committed",
+            Rule::CommittedTwice => "committed twice",
+            Rule::OffTheDiagram => "not along the diagram",
+        }
+    }
 }
 
 /// The first entry that breaks a rule.

@@ -218,12 +218,13 @@ impl Replay {
     /// The safety of the trail: `ok`, or the rule that is broken, and the first item that breaks it.
     fn put_check(&self, alloc: Global, out: &mut String) -> Result<(), AllocError> {
         let trail = self.node.trail();
-        let Some((place, broken)) = first_broken(trail) else {
+        let Some(broken) = first_broken(alloc, trail)? else {
             return out.push_str("ok\n");
         };
-        out.push_str(broken.text())?;
+        out.push_str(broken.rule)?;
         out.push_str(": ")?;
-        let item = trail_text(alloc, &trail[place..place + 1])?;
+        let behind = trail.get(broken.place..).unwrap_or(&[]);
+        let item = trail_text(alloc, behind.get(..1).unwrap_or(&[]))?;
         out.push_str(item.as_str())
     }
 
