@@ -1,7 +1,7 @@
 //! `smf`: does scripts of a service manager on standard input, and lines of svccfg over a database. A script runs over
 //! a repository in memory, a copy in memory of a database, or a database and the processes of its services. This crate
 //! joins what the system has with what the crates below decide.
-//! Modules: `files` (databases in files), `sites` (files of tables), `exports` (what databases hold, as lines), `backups` (whole copies of databases), `shows` (what they hold, for people and for programs), `plans` (in which order their services would stop), `audits` (whether trails are safe), `contracts` (contracts that are followed through forks), `processes`
+//! Modules: `files` (databases in files), `sites` (files of tables), `exports` (what databases hold, as lines), `backups` (whole copies of databases), `shows` (what they hold, for people and for programs), `pasts` (what their chronicles tell), `plans` (in which order their services would stop), `audits` (whether trails are safe), `contracts` (contracts that are followed through forks), `processes`
 //! (processes of the system), `questions` (what is asked behind scripts), `server` (a service manager that stays), `boot` (boots that fail), `beginnings` (how lives begin, as records have it),
 //! `records` (what stands in them), `replays` (records that are run again), `times` (times as people write them).
 #![tactic(auto)]
@@ -13,6 +13,7 @@ mod boot;
 mod contracts;
 mod exports;
 mod files;
+mod pasts;
 mod plans;
 mod processes;
 mod questions;

@@ -2,13 +2,14 @@
 ghost use Rattle.smf_model.specs.Laws.{IsNumbered};
 
 use crate::exports::{FAULT, REFUSED, held_in, write_out};
+use crate::pasts::{chronicle_beside, no_chronicle};
 use smf_database::{missed_text, texts_of, words_without_match};
 use smf_fmri::{Fmri, InstanceFmri, Items, Text};
 use smf_lines::TextWriter;
 use smf_model::{NoJournal, Plain, Tables};
 use smf_program::{Listing, tell_no_memory};
 use smf_show::{
-    Column, Configured, Direction, Selection, SortKey, TableOptions, all_well,
+    Chronicle, Column, Configured, Direction, Selection, SortKey, TableOptions, all_well,
     configured_instances, json_of, long_of, metrics_of, properties_text, running_instances,
     table_of,
 };
@@ -98,13 +99,38 @@ fn options_of(alloc: Global, listing: &Listing<'_>) -> Result<TableOptions, Unsh
     })
 }
 
+/// True if a column is asked for that tells of the past of instances.
+fn asks_for_past(options: &TableOptions) -> bool {
+    let columns = options.columns.as_slice();
+    let keys = options.keys.as_slice();
+    columns.iter().any(|column| column.tells_past())
+        || keys.iter().any(|key| key.column.tells_past())
+}
+
+/// The chronicle of a database, if the past is asked for.
+fn chronicle_for(
+    rt: &HostRuntime,
+    database: &str,
+    options: &TableOptions,
+) -> Result<Chronicle, Unshown> {
+    if !asks_for_past(options) {
+        return Ok(no_chronicle(rt.alloc()));
+    }
+    match chronicle_beside(rt, database) {
+        Ok(chronicle) => Ok(chronicle),
+        Err(_) => Err(Unshown::Memory),
+    }
+}
+
 /// The text of the instances that words mean, in the form that is asked for.
 fn listed(
-    alloc: Global,
+    rt: &HostRuntime,
+    database: &str,
     repository: &Plain<NoJournal>,
     words: &[Text],
     listing: &Listing<'_>,
 ) -> Result<Text, Unshown> {
+    let alloc = rt.alloc();
     if listing.json {
         let json = json_of(alloc, repository, words)?;
         return Ok(Text::from_string(format!(in alloc; "{json}\n")?));
@@ -116,7 +142,8 @@ fn listed(
         return Ok(metrics_of(alloc, repository, words)?);
     }
     let options = options_of(alloc, listing)?;
-    Ok(table_of(alloc, repository, words, &options)?)
+    let chronicle = chronicle_for(rt, database, &options)?;
+    Ok(table_of(alloc, repository, words, &options, &chronicle)?)
 }
 
 /// The words about a reason why nothing is shown.
@@ -168,6 +195,7 @@ fn tell_missed(
 /// Prints instances in the form that is asked for, after the words that mean none are told.
 fn show(
     rt: &HostRuntime,
+    database: &str,
     repository: &Plain<NoJournal>,
     words: &[Text],
     listing: &Listing<'_>,
@@ -177,7 +205,7 @@ fn show(
         let well = all_well(rt.alloc(), repository, words)?;
         return Ok(if well { missed } else { REFUSED });
     }
-    let text = listed(rt.alloc(), repository, words, listing)?;
+    let text = listed(rt, database, repository, words, listing)?;
     let status = write_out(rt, text.as_str().as_bytes());
     Ok(if status == 0 { missed } else { status })
 }
@@ -276,7 +304,7 @@ pub(crate) fn show_over(
     let Ok(words) = texts_of(rt.alloc(), words) else {
         return tell_no_memory(&mut rt.stderr());
     };
-    match show(rt, &repository, words.as_slice(), listing) {
+    match show(rt, database, &repository, words.as_slice(), listing) {
         Ok(status) => status,
         Err(why) => tell_unshown(rt, &why),
     }

@@ -1,2 +1,5 @@
+mod Audited
 mod Depths
 mod Escaped
+mod Told
+mod Years

@@ -6,8 +6,8 @@ use Rattle.smf_state.specs.declared.state.State.{State}
 use Rattle.smf_state.specs.declared.state.State.TheVariants as states
 use Rattle.smf_state.specs.States.{state_text}
 use Rattle.smf_show.specs.declared.columns.Column.{Column}
-use Rattle.smf_show.specs.declared.columns.Column.TheVariants.{Fmri, Service, Instance, State as StateWord, Sta, NextState, NextSta, Enabled, Restarter}
-use Rattle.smf_show.specs.declared.shown.Shown.{Shown}
+use Rattle.smf_show.specs.declared.columns.Column.TheVariants.{Fmri, Service, Instance, State as StateWord, Sta, NextState, NextSta, Enabled, Restarter, Since, Restarts, Contract}
+use Rattle.smf_show.specs.declared.row.TableRow.{TableRow}
 
 -- ---- their names
 
@@ -21,6 +21,9 @@ header_word NextState = codes "NSTATE"
 header_word NextSta = codes "NSTA"
 header_word Enabled = codes "ENABLED"
 header_word Restarter = codes "RESTARTER"
+header_word Since = codes "STIME"
+header_word Restarts = codes "NRSTRT"
+header_word Contract = codes "CTID"
 
 -- the same word, in whatever case
 unfoldable pub is_word : List ℕ → List ℕ → Bool
@@ -37,6 +40,9 @@ read_column text =
     else if is_word text (codes "nsta") then Some NextSta
     else if is_word text (codes "enabled") then Some Enabled
     else if is_word text (codes "restarter") then Some Restarter
+    else if is_word text (codes "stime") then Some Since
+    else if is_word text (codes "nrstrt") then Some Restarts
+    else if is_word text (codes "ctid") then Some Contract
     else None
 
 -- ---- what stands in them
@@ -61,16 +67,19 @@ abbrev pub truth_text : Bool → List ℕ
 truth_text true = codes "true"
 truth_text false = codes "false"
 
-abbrev pub cell : Column → Shown → List ℕ
-cell Fmri s = s.name
-cell Service s = service_of s.name
-cell Instance s = unwrap_or (instance_of s.name) []
-cell StateWord s = state_text s.state
-cell Sta s = sta_text s.state
-cell NextState s = next_text s.next
-cell NextSta s = next_sta_text s.next
-cell Enabled s = truth_text s.enabled
-cell Restarter s = s.restarter
+abbrev pub cell : Column → TableRow → List ℕ
+cell Fmri r = r.shown.name
+cell Service r = service_of r.shown.name
+cell Instance r = unwrap_or (instance_of r.shown.name) []
+cell StateWord r = state_text r.shown.state
+cell Sta r = sta_text r.shown.state
+cell NextState r = next_text r.shown.next
+cell NextSta r = next_sta_text r.shown.next
+cell Enabled r = truth_text r.shown.enabled
+cell Restarter r = r.shown.restarter
+cell Since r = r.since.text
+cell Restarts r = r.restarts.text
+cell Contract r = r.contract.text
 
 -- ---- transitions
 
@@ -85,8 +94,16 @@ tells_next NextSta = true
 tells_next _ = false
 
 -- a star behind the state, if stars are shown and a transition is under way
-abbrev pub star : Bool → Shown → Column → List ℕ
-star stars s column = if stars && tells_state column && is_some s.next then codes "*" else []
+abbrev pub star : Bool → TableRow → Column → List ℕ
+star stars r column = if stars && tells_state column && is_some r.shown.next then codes "*" else []
 
-abbrev pub starred_cell : Bool → Shown → Column → List ℕ
-starred_cell stars s column = cell column s ++ star stars s column
+abbrev pub starred_cell : Bool → TableRow → Column → List ℕ
+starred_cell stars r column = cell column r ++ star stars r column
+
+-- ---- the past
+
+abbrev pub tells_past : Column → Bool
+tells_past Since = true
+tells_past Restarts = true
+tells_past Contract = true
+tells_past _ = false

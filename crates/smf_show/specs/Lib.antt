@@ -1,9 +1,14 @@
 pub mod Chosen
 pub mod Columns
+pub mod DateLaws
+pub mod Dates
 pub mod Json
 pub mod Long
 pub mod Metrics
+pub mod Past
+pub mod PastLaws
 pub mod Properties
 pub mod Rows
+pub mod TableRows
 pub mod Tables
 pub mod Well

@@ -6,7 +6,9 @@ ghost use Rattle.smf_fmri.specs.ByKey.{put_all};
 ghost use Rattle.smf_model.specs.Next.{named_snapshot};
 ghost use Rattle.smf_snap.specs.Composed.{composition};
 ghost use Rattle.smf_show.specs.Chosen.{by_configured, by_shown, configured_instances, configured_of, groups_at, groups_in, is_meant_by, items_by, meant_items, running_instances, running_of, shown_instances, shown_of};
+ghost use Rattle.smf_show.specs.TableRows.{by_row, row_of_item, table_rows};
 
+use crate::row::{Chronicle, TableRow, row_of};
 use crate::shown::{Configured, Shown};
 use smf_database::{is_named, patterns_of};
 use smf_fmri::{InstanceFmri, Items, Ordered, Pattern, Text};
@@ -93,6 +95,47 @@ pub fn shown_instances<J: Journal>(
 {
     let items = meant_items(alloc, repository, words)?;
     shown_by_name(alloc, items.as_slice())
+}
+
+/// The row of an instance in a table.
+fn row_of_item(
+    alloc: Global,
+    chronicle: &Chronicle,
+    item: &ViewItem,
+) -> Result<TableRow, AllocError>
+    ensures { IfOk result (λ row. row ≡ row_of_item chronicle.now item.now) }
+{
+    row_of(alloc, chronicle, item.instance, shown_of(item)?)
+}
+
+/// Rows in the byte order of the names of their instances.
+fn rows_by_name(
+    alloc: Global,
+    chronicle: &Chronicle,
+    items: &[ViewItem],
+) -> Result<Ordered<TableRow>, AllocError>
+    ensures { IfOk result (λ all. all ≡ put_all by_row (map (row_of_item chronicle.now) items.now) []) }
+{
+    let mut all = Ordered::new(alloc);
+    for item in items {
+        all.put(row_of_item(alloc, chronicle, item)?)?;
+    }
+    Ok(all)
+}
+
+/// The rows of the same instances, in the byte order of their names.
+#[tactic(auto, unfolding(crate::specs::TableRows::table_rows))]
+pub fn table_rows<J: Journal>(
+    alloc: Global,
+    repository: &Plain<J>,
+    words: &[Text],
+    chronicle: &Chronicle,
+) -> Result<Ordered<TableRow>, AllocError>
+    ensures { IfOk result
+        (λ all. all ≡ table_rows chronicle.now repository.now.held words.now) }
+{
+    let items = meant_items(alloc, repository, words)?;
+    rows_by_name(alloc, chronicle, items.as_slice())
 }
 
 /// The groups of an instance.

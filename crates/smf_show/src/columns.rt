@@ -2,9 +2,9 @@
 
 ghost use Rattle.std.specs.Prelude.{◌≡◌, length, unwrap_or, [], OnOk, string_bytes, ◌++◌};
 ghost use Rattle.smf_fmri.specs.Patterns.{instance_of};
-ghost use Rattle.smf_show.specs.Columns.{cell, header_word, is_word, next_sta_text, next_text, read_column, sta_text, star, starred_cell, tells_next, tells_state, truth_text};
+ghost use Rattle.smf_show.specs.Columns.{cell, header_word, is_word, next_sta_text, next_text, read_column, sta_text, star, starred_cell, tells_next, tells_past, tells_state, truth_text};
 
-use crate::shown::Shown;
+use crate::row::TableRow;
 use smf_fmri::InstanceFmri;
 use smf_state::State;
 use std::alloc::AllocError;
@@ -24,6 +24,12 @@ pub enum Column {
     NextSta,
     Enabled,
     Restarter,
+    /// When the instance came into its state.
+    Since,
+    /// How often it was started again.
+    Restarts,
+    /// The contract of its start.
+    Contract,
 }
 
 #[tactic(auto, unfolding(crate::specs::Columns::is_word))]
@@ -56,6 +62,12 @@ impl Column {
             Some(Column::Enabled)
         } else if is_word(text, "restarter") {
             Some(Column::Restarter)
+        } else if is_word(text, "stime") {
+            Some(Column::Since)
+        } else if is_word(text, "nrstrt") {
+            Some(Column::Restarts)
+        } else if is_word(text, "ctid") {
+            Some(Column::Contract)
         } else {
             None
         }
@@ -75,6 +87,9 @@ impl Column {
             Column::NextSta => "NSTA",
             Column::Enabled => "ENABLED",
             Column::Restarter => "RESTARTER",
+            Column::Since => "STIME",
+            Column::Restarts => "NRSTRT",
+            Column::Contract => "CTID",
         }
     }
 
@@ -88,6 +103,13 @@ impl Column {
         ensures { result ≡ tells_next self }
     {
         matches!(self, Column::NextState | Column::NextSta)
+    }
+
+    /// True if the column has what a chronicle tells.
+    pub fn tells_past(self) -> bool
+        ensures { result ≡ tells_past self }
+    {
+        matches!(self, Column::Since | Column::Restarts | Column::Contract)
     }
 }
 
@@ -138,48 +160,51 @@ fn instance_text(name: &InstanceFmri) -> &str
 }
 
 /// What stands in a column, without a star.
-pub(crate) fn cell(column: Column, shown: &Shown) -> &str
-    ensures { result.now ≡ cell column shown.now }
+pub(crate) fn cell(column: Column, row: &TableRow) -> &str
+    ensures { result.now ≡ cell column row.now }
 {
     match column {
-        Column::Fmri => shown.name.print(),
-        Column::Service => shown.name.as_fmri().service(),
-        Column::Instance => instance_text(&shown.name),
-        Column::State => shown.state.text(),
-        Column::Sta => sta_text(shown.state),
-        Column::NextState => next_text(shown.next),
-        Column::NextSta => next_sta_text(shown.next),
-        Column::Enabled => truth_text(shown.enabled),
-        Column::Restarter => shown.restarter.print(),
+        Column::Fmri => row.shown.name.print(),
+        Column::Service => row.shown.name.as_fmri().service(),
+        Column::Instance => instance_text(&row.shown.name),
+        Column::State => row.shown.state.text(),
+        Column::Sta => sta_text(row.shown.state),
+        Column::NextState => next_text(row.shown.next),
+        Column::NextSta => next_sta_text(row.shown.next),
+        Column::Enabled => truth_text(row.shown.enabled),
+        Column::Restarter => row.shown.restarter.print(),
+        Column::Since => row.since.text.as_str(),
+        Column::Restarts => row.restarts.text.as_str(),
+        Column::Contract => row.contract.text.as_str(),
     }
 }
 
-fn star(stars: bool, shown: &Shown, column: Column) -> &'static str
-    ensures { result.now ≡ star stars shown.now column }
+fn star(stars: bool, row: &TableRow, column: Column) -> &'static str
+    ensures { result.now ≡ star stars row.now column }
 {
-    if stars && column.tells_state() && shown.next.is_some() {
+    if stars && column.tells_state() && row.shown.next.is_some() {
         "*"
     } else {
         ""
     }
 }
 
-pub(crate) fn cell_len(stars: bool, shown: &Shown, column: Column) -> usize
-    ensures { result ≡ length (starred_cell stars shown.now column) }
+pub(crate) fn cell_len(stars: bool, row: &TableRow, column: Column) -> usize
+    ensures { result ≡ length (starred_cell stars row.now column) }
 {
-    let text = cell(column, shown);
-    let star = star(stars, shown, column);
+    let text = cell(column, row);
+    let star = star(stars, row, column);
     text.len() + star.len()
 }
 
 pub(crate) fn put_cell(
     out: &mut String,
     stars: bool,
-    shown: &Shown,
+    row: &TableRow,
     column: Column,
 ) -> Result<(), AllocError>
-    ensures { OnOk result (string_bytes out.new ≡ string_bytes out.old ++ starred_cell stars shown.now column) }
+    ensures { OnOk result (string_bytes out.new ≡ string_bytes out.old ++ starred_cell stars row.now column) }
 {
-    out.push_str(cell(column, shown))?;
-    out.push_str(star(stars, shown, column))
+    out.push_str(cell(column, row))?;
+    out.push_str(star(stars, row, column))
 }

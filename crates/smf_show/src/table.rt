@@ -6,8 +6,8 @@ ghost use Rattle.smf_show.specs.Columns.{header_word, starred_cell, tells_next};
 ghost use Rattle.smf_show.specs.Tables.{first_width, has_stars, header_line, later_cells, line_of, lines_at, place_of, places_of, row_line, rows_of, table_of, table_text, width_of};
 
 use crate::columns::{Column, cell_len, put_cell};
+use crate::row::TableRow;
 use crate::rows::{SortKey, rows_run_by, sorted_rows};
-use crate::shown::Shown;
 use smf_fmri::{InstanceFmri, Items, Ordered, Text};
 use std::alloc::{AllocError, Global};
 
@@ -37,7 +37,7 @@ fn first_width(header: bool, column: Column) -> usize
     if header { column.header().len() } else { 0 }
 }
 
-fn width_of(stars: bool, header: bool, rows: &[Shown], column: Column) -> usize
+fn width_of(stars: bool, header: bool, rows: &[TableRow], column: Column) -> usize
     ensures { result ≡ width_of stars header rows.now column }
 {
     let mut width = first_width(header, column);
@@ -47,7 +47,7 @@ fn width_of(stars: bool, header: bool, rows: &[Shown], column: Column) -> usize
     width
 }
 
-fn place_of(stars: bool, header: bool, rows: &[Shown], column: Column) -> Place
+fn place_of(stars: bool, header: bool, rows: &[TableRow], column: Column) -> Place
     ensures { result ≡ place_of stars header rows.now column }
 {
     Place {
@@ -61,7 +61,7 @@ fn places_of(
     stars: bool,
     header: bool,
     columns: &[Column],
-    rows: &[Shown],
+    rows: &[TableRow],
 ) -> Result<Vec<Place>, AllocError>
     ensures { IfOk result (λ places. places.items ≡ places_of stars header columns.now rows.now) }
 {
@@ -87,7 +87,7 @@ fn put_blanks(out: &mut String, count: usize) -> Result<(), AllocError>
 fn put_later_cells(
     out: &mut String,
     stars: bool,
-    row: &Shown,
+    row: &TableRow,
     short: usize,
     places: &[Place],
 ) -> Result<(), AllocError>
@@ -110,7 +110,7 @@ fn put_row_line(
     out: &mut String,
     stars: bool,
     places: &[Place],
-    row: &Shown,
+    row: &TableRow,
 ) -> Result<(), AllocError>
     ensures { OnOk result (string_bytes out.new ≡ string_bytes out.old ++ row_line stars places.now row.now) }
 {
@@ -166,7 +166,7 @@ fn put_rows(
     out: &mut String,
     stars: bool,
     places: &[Place],
-    rows: &[Shown],
+    rows: &[TableRow],
 ) -> Result<(), AllocError>
     ensures { OnOk result
         (string_bytes out.new ≡ string_bytes out.old ++ flat_map (row_line stars places.now) rows.now) }
@@ -190,7 +190,7 @@ fn table_of(
     stars: bool,
     header: bool,
     columns: &[Column],
-    rows: &[Shown],
+    rows: &[TableRow],
 ) -> Result<Text, AllocError>
     ensures { IfOk result (λ text. text ≡ table_of stars header columns.now rows.now) }
 {
@@ -202,7 +202,11 @@ fn table_of(
 }
 
 /// The rows that options ask for, in order.
-fn rows_of(alloc: Global, options: &TableOptions, all: Vec<Shown>) -> Result<Vec<Shown>, AllocError>
+fn rows_of(
+    alloc: Global,
+    options: &TableOptions,
+    all: Vec<TableRow>,
+) -> Result<Vec<TableRow>, AllocError>
     ensures { IfOk result (λ rows. rows.items ≡ rows_of options.now all.items) }
 {
     let rows = rows_run_by(alloc, &options.restarter, all)?;
@@ -214,7 +218,7 @@ fn rows_of(alloc: Global, options: &TableOptions, all: Vec<Shown>) -> Result<Vec
 pub fn table_text(
     alloc: Global,
     options: &TableOptions,
-    all: Ordered<Shown>,
+    all: Ordered<TableRow>,
 ) -> Result<Text, AllocError>
     ensures { IfOk result (λ text. text ≡ table_text options.now all) }
 {

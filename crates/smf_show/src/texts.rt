@@ -6,13 +6,15 @@ ghost use Rattle.smf_show.specs.Chosen.{configured_instances, running_instances,
 ghost use Rattle.smf_show.specs.Json.{all_data};
 ghost use Rattle.smf_show.specs.Long.{long_text};
 ghost use Rattle.smf_show.specs.Metrics.{metrics_text};
+ghost use Rattle.smf_show.specs.TableRows.{table_rows};
 ghost use Rattle.smf_show.specs.Tables.{table_text};
 ghost use Rattle.smf_show.specs.Well.{are_well};
 
-use crate::chosen::{configured_instances, running_instances, shown_instances};
+use crate::chosen::{configured_instances, running_instances, shown_instances, table_rows};
 use crate::json::json_text;
 use crate::long::long_text;
 use crate::metrics::metrics_text;
+use crate::row::Chronicle;
 use crate::table::{TableOptions, table_text};
 use crate::well::are_well;
 use smf_fmri::Text;
@@ -46,17 +48,18 @@ pub fn all_well<J: Journal>(
     Ok(are_well(all.as_slice()))
 }
 
-/// A table of the instances that one of the words matches, or of all without words.
+/// A table of the instances that one of the words matches, or of all without words, with what a chronicle tells of them.
 pub fn table_of<J: Journal>(
     alloc: Global,
     repository: &Plain<J>,
     words: &[Text],
     options: &TableOptions,
+    chronicle: &Chronicle,
 ) -> Result<Text, AllocError>
     ensures { IfOk result
-        (λ text. text ≡ table_text options.now (shown_instances repository.now.held words.now)) }
+        (λ text. text ≡ table_text options.now (table_rows chronicle.now repository.now.held words.now)) }
 {
-    let all = shown_instances(alloc, repository, words)?;
+    let all = table_rows(alloc, repository, words, chronicle)?;
     table_text(alloc, options, all)
 }
 
