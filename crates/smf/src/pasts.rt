@@ -3,7 +3,7 @@ use smf_audit::Entry;
 use smf_chronicle::{ReadFault, first_link, read_lines};
 use smf_fmri::Items;
 use smf_host::path_beside;
-use smf_show::{Chronicle, Dated};
+use smf_show::{Dated, DatedChronicle};
 use std::alloc::{AllocError, Global};
 use std::time::{SystemTime, UNIX_EPOCH};
 use std::{fs, io};
@@ -108,22 +108,22 @@ fn put_file(rt: &HostRuntime, lines: &mut Items<Dated>, path: &str) -> io::Resul
 }
 
 /// The chronicle of a database, with the file before it, as far as both can be read. An error is want of memory.
-pub(crate) fn chronicle_beside(rt: &HostRuntime, database: &str) -> io::Result<Chronicle> {
+pub(crate) fn chronicle_beside(rt: &HostRuntime, database: &str) -> io::Result<DatedChronicle> {
     let alloc = rt.alloc();
     let path = path_beside(rt, database, "trail")?;
     let older = format!(in alloc; "{}.0", path.as_str())?;
     let mut lines = Items::new(alloc);
     put_file(rt, &mut lines, older.as_str())?;
     put_file(rt, &mut lines, path.as_str())?;
-    Ok(Chronicle {
+    Ok(DatedChronicle {
         lines,
         read_at: milliseconds(rt),
     })
 }
 
 /// A chronicle that tells nothing.
-pub(crate) fn no_chronicle(alloc: Global) -> Chronicle {
-    Chronicle {
+pub(crate) fn no_chronicle(alloc: Global) -> DatedChronicle {
+    DatedChronicle {
         lines: Items::new(alloc),
         read_at: 0,
     }

@@ -9,7 +9,7 @@ use smf_lines::TextWriter;
 use smf_model::{NoJournal, Plain, Tables};
 use smf_program::{Listing, tell_no_memory};
 use smf_show::{
-    Chronicle, Column, Configured, Direction, Selection, SortKey, TableOptions, all_well,
+    Column, Configured, DatedChronicle, Direction, Selection, SortKey, TableOptions, all_well,
     configured_instances, json_of, long_of, metrics_of, properties_text, running_instances,
     table_of,
 };
@@ -112,7 +112,7 @@ fn chronicle_for(
     rt: &HostRuntime,
     database: &str,
     options: &TableOptions,
-) -> Result<Chronicle, Unshown> {
+) -> Result<DatedChronicle, Unshown> {
     if !asks_for_past(options) {
         return Ok(no_chronicle(rt.alloc()));
     }

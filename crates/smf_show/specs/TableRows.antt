@@ -12,7 +12,7 @@ use Rattle.smf_show.specs.Past.{past_of}
 use Rattle.smf_show.specs.declared.past.Dated.{Dated}
 use Rattle.smf_show.specs.declared.past.Past.{Past}
 use Rattle.smf_show.specs.declared.past.Standing.{Standing}
-use Rattle.smf_show.specs.declared.row.Chronicle.{Chronicle}
+use Rattle.smf_show.specs.declared.row.DatedChronicle.{DatedChronicle}
 use Rattle.smf_show.specs.declared.row.NumberCell.{NumberCell}
 use Rattle.smf_show.specs.declared.row.TableRow.{TableRow}
 use Rattle.smf_show.specs.declared.shown.Shown.{Shown}
@@ -52,7 +52,7 @@ since_cell read_at value = record { value = value; text = since_or_none read_at 
 
 -- ---- rows
 
-abbrev pub row_by : Chronicle → Past → Shown → TableRow
+abbrev pub row_by : DatedChronicle → Past → Shown → TableRow
 row_by c p s =
     record {
       shown = s;
@@ -62,12 +62,12 @@ row_by c p s =
     }
 
 -- the row of an instance by its number
-abbrev pub row_of : Chronicle → ℕ → Shown → TableRow
+abbrev pub row_of : DatedChronicle → ℕ → Shown → TableRow
 row_of c i s = row_by c (past_of c.lines i) s
 
-abbrev pub row_of_item : Chronicle → ViewItem → TableRow
+abbrev pub row_of_item : DatedChronicle → ViewItem → TableRow
 row_of_item c i = row_of c i.instance (shown_of i)
 
 -- those of the instances that the words mean, in the byte order of their names
-unfoldable pub table_rows : Chronicle → Holdings → List (List ℕ) → List TableRow
+unfoldable pub table_rows : DatedChronicle → Holdings → List (List ℕ) → List TableRow
 table_rows c h words = put_all by_row (map (row_of_item c) (meant_items h words)) []

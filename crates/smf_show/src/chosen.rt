@@ -8,7 +8,7 @@ ghost use Rattle.smf_snap.specs.Composed.{composition};
 ghost use Rattle.smf_show.specs.Chosen.{by_configured, by_shown, configured_instances, configured_of, groups_at, groups_in, is_meant_by, items_by, meant_items, running_instances, running_of, shown_instances, shown_of};
 ghost use Rattle.smf_show.specs.TableRows.{by_row, row_of_item, table_rows};
 
-use crate::row::{Chronicle, TableRow, row_of};
+use crate::row::{DatedChronicle, TableRow, row_of};
 use crate::shown::{Configured, Shown};
 use smf_database::{is_named, patterns_of};
 use smf_fmri::{InstanceFmri, Items, Ordered, Pattern, Text};
@@ -100,7 +100,7 @@ pub fn shown_instances<J: Journal>(
 /// The row of an instance in a table.
 fn row_of_item(
     alloc: Global,
-    chronicle: &Chronicle,
+    chronicle: &DatedChronicle,
     item: &ViewItem,
 ) -> Result<TableRow, AllocError>
     ensures { IfOk result (λ row. row ≡ row_of_item chronicle.now item.now) }
@@ -111,7 +111,7 @@ fn row_of_item(
 /// Rows in the byte order of the names of their instances.
 fn rows_by_name(
     alloc: Global,
-    chronicle: &Chronicle,
+    chronicle: &DatedChronicle,
     items: &[ViewItem],
 ) -> Result<Ordered<TableRow>, AllocError>
     ensures { IfOk result (λ all. all ≡ put_all by_row (map (row_of_item chronicle.now) items.now) []) }
@@ -129,7 +129,7 @@ pub fn table_rows<J: Journal>(
     alloc: Global,
     repository: &Plain<J>,
     words: &[Text],
-    chronicle: &Chronicle,
+    chronicle: &DatedChronicle,
 ) -> Result<Ordered<TableRow>, AllocError>
     ensures { IfOk result
         (λ all. all ≡ table_rows chronicle.now repository.now.held words.now) }

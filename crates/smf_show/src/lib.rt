@@ -33,7 +33,7 @@ pub use long::long_text;
 pub use metrics::metrics_text;
 pub use past::{Dated, Past, Standing, past_of};
 pub use properties::{Selection, properties_text};
-pub use row::{Chronicle, NumberCell, TableRow};
+pub use row::{DatedChronicle, NumberCell, TableRow};
 pub use rows::{Direction, SortKey};
 pub use shown::{Configured, Shown};
 pub use table::{TableOptions, table_text};

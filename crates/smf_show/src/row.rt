@@ -13,7 +13,7 @@ use std::alloc::{AllocError, Global};
 
 /// Lines of a chronicle, in the order in which they were written.
 #[derive(Drop)]
-pub struct Chronicle {
+pub struct DatedChronicle {
     pub lines: Items<Dated>,
     /// When they were read, in milliseconds since 1970.
     pub read_at: u64,
@@ -105,7 +105,7 @@ fn since_cell(alloc: Global, read_at: u64, value: Option<u64>) -> Result<NumberC
 /// The row of an instance by its number.
 pub(crate) fn row_of(
     alloc: Global,
-    chronicle: &Chronicle,
+    chronicle: &DatedChronicle,
     instance: u64,
     shown: Shown,
 ) -> Result<TableRow, AllocError>

@@ -14,7 +14,7 @@ use crate::chosen::{configured_instances, running_instances, shown_instances, ta
 use crate::json::json_text;
 use crate::long::long_text;
 use crate::metrics::metrics_text;
-use crate::row::Chronicle;
+use crate::row::DatedChronicle;
 use crate::table::{TableOptions, table_text};
 use crate::well::are_well;
 use smf_fmri::Text;
@@ -54,7 +54,7 @@ pub fn table_of<J: Journal>(
     repository: &Plain<J>,
     words: &[Text],
     options: &TableOptions,
-    chronicle: &Chronicle,
+    chronicle: &DatedChronicle,
 ) -> Result<Text, AllocError>
     ensures { IfOk result
         (λ text. text ≡ table_text options.now (table_rows chronicle.now repository.now.held words.now)) }
