@@ -6,6 +6,15 @@ use std::alloc::{AllocError, Global};
 /// How the part of a block begins that tells of a start.
 pub(crate) const STARTED: &str = "Started";
 
+/// What a part of a block tells of. It is no text: the types of whoever keeps blocks would name its lifetime.
+#[derive(Clone, Copy, PartialEq, Eq)]
+pub(crate) enum Kind {
+    /// A start.
+    Started,
+    /// An order to stop.
+    Stopped,
+}
+
 /// What is told of an instance: its name, and its parts, the last that happened first.
 #[derive(Drop)]
 pub(crate) struct Block {
@@ -16,17 +25,16 @@ pub(crate) struct Block {
 /// Lines that tell of a start or of an order to stop.
 #[derive(Drop)]
 struct Part {
-    /// The first word of the lines.
-    kind: &'static str,
+    kind: Kind,
     lines: String,
 }
 
 /// The kind of the part that a line begins.
-fn kind_of(line: &str) -> Option<&'static str> {
+fn kind_of(line: &str) -> Option<Kind> {
     if line.starts_with(STARTED) {
-        Some(STARTED)
+        Some(Kind::Started)
     } else if line.starts_with(STOPPED) {
-        Some(STOPPED)
+        Some(Kind::Stopped)
     } else {
         None
     }
@@ -42,13 +50,13 @@ fn is_between(lines: &str, after: u64, before: u64) -> bool {
 
 impl Block {
     /// Puts a part before the others, in place of that of its kind.
-    fn put(&mut self, kind: &'static str, lines: String) -> Result<(), AllocError> {
+    fn put(&mut self, kind: Kind, lines: String) -> Result<(), AllocError> {
         self.parts.retain(|part| part.kind != kind);
         self.parts.insert(0, Part { kind, lines })?;
         Ok(())
     }
 
-    fn lines_of(&self, kind: &str) -> Option<&str> {
+    fn lines_of(&self, kind: Kind) -> Option<&str> {
         for part in &self.parts {
             if part.kind == kind {
                 return Some(part.lines.as_str());
@@ -59,9 +67,9 @@ impl Block {
 
     /// The lines of the order that led to a stop on a revision: it was decided by then, and no start lies between.
     pub(crate) fn stop_before(&self, revision: u64) -> Option<&str> {
-        let lines = self.lines_of(STOPPED)?;
+        let lines = self.lines_of(Kind::Stopped)?;
         let ordered = decided_on(lines)?;
-        let is_older = match self.lines_of(STARTED) {
+        let is_older = match self.lines_of(Kind::Started) {
             None => false,
             Some(start) => is_between(start, ordered, revision),
         };
@@ -102,7 +110,7 @@ pub(crate) fn put_part(
     blocks: &mut Vec<Block>,
     alloc: Global,
     name: &InstanceFmri,
-    kind: &'static str,
+    kind: Kind,
     lines: String,
 ) -> Result<(), AllocError> {
     for block in blocks.iter_mut() {

@@ -1,5 +1,5 @@
 // On what evidence instances were started and stopped last.
-use crate::blocks::{Block, STARTED, blocks_in, put_part, text_of};
+use crate::blocks::{Block, Kind, STARTED, blocks_in, put_part, text_of};
 use crate::chain::{STOPPED, Told};
 use smf_dep::{Grouping, RestartOn};
 use smf_fmri::InstanceFmri;
@@ -388,7 +388,13 @@ impl Provenance {
             Some(evidence) => {
                 let lines = stop_lines(alloc, &self.blocks, &evidence)?;
                 self.is_new = true;
-                put_part(&mut self.blocks, alloc, &evidence.name, STOPPED, lines)
+                put_part(
+                    &mut self.blocks,
+                    alloc,
+                    &evidence.name,
+                    Kind::Stopped,
+                    lines,
+                )
             }
         }
     }
@@ -414,7 +420,13 @@ impl Provenance {
             Some(evidence) => {
                 let lines = start_lines(alloc, evidence, item, by)?;
                 self.is_new = true;
-                put_part(&mut self.blocks, alloc, &evidence.name, STARTED, lines)
+                put_part(
+                    &mut self.blocks,
+                    alloc,
+                    &evidence.name,
+                    Kind::Started,
+                    lines,
+                )
             }
         }
     }
