@@ -117,6 +117,7 @@ fn do_task(rt: &HostRuntime, task: &Task<'_>) -> io::Result<u8> {
         } => replay_over(rt, recorded, *until, *lines, *request),
         Task::Ask {
             form,
+            first,
             folder,
             program,
             words,
@@ -126,15 +127,23 @@ fn do_task(rt: &HostRuntime, task: &Task<'_>) -> io::Result<u8> {
                 program,
                 whole: form.whole,
             };
-            Ok(ask(rt, *form, client, words.as_slice()))
+            Ok(ask(rt, *form, *first, client, words.as_slice()))
         }
     }
 }
 
-/// Asks the server of a folder: by a line of words or by a script. Or it tells where the server is.
-fn ask(rt: &HostRuntime, form: AskForm, client: Client<'_>, words: &[&str]) -> u8 {
+/// Asks the server of a folder: by a line of words, by a script or by lines of svccfg. Or it tells where the server is.
+fn ask(
+    rt: &HostRuntime,
+    form: AskForm,
+    first: Option<&str>,
+    client: Client<'_>,
+    words: &[&str],
+) -> u8 {
     if form.place {
         client.print_place(rt)
+    } else if form.cfg {
+        client.ask_lines(rt, first)
     } else if form.script {
         client.ask_script(rt)
     } else {

@@ -4,7 +4,8 @@ use crate::answer::lines_if;
 use crate::fault::AskFault;
 use crate::place::find;
 use crate::request::{Reply, ask};
-use std::io::{Read, Write};
+use crate::script::{ends_session, script_of};
+use std::io::{BufRead, BufReader, Read, Write};
 use std::rt::HostRuntime;
 use std::{io, str};
 
@@ -38,6 +39,21 @@ fn drain(rt: &HostRuntime) {
             Ok(_) => {}
         }
     }
+}
+
+/// Reads standard input up to and with the line that ends the session, and at most one byte more than a request has.
+fn read_session(rt: &HostRuntime) -> io::Result<Vec<u8>> {
+    let alloc = rt.alloc();
+    let more = (MOST as u64).saturating_add(1);
+    let mut reader = BufReader::new(alloc, rt.reader().take(more))?;
+    let mut text: Vec<u8> = Vec::new(alloc);
+    for _ in 0..u64::MAX {
+        let begun = text.len();
+        if reader.read_until(b'\n', &mut text)? == 0 || ends_session(&text[begun..]) {
+            break;
+        }
+    }
+    Ok(text)
 }
 
 /// Who asks, and where.
@@ -144,6 +160,14 @@ impl<'a> Client<'a> {
         self.show(rt, &reply)
     }
 
+    fn by_lines(&self, rt: &HostRuntime, first: Option<&str>, text: &[u8]) -> Result<u8, AskFault> {
+        let script = script_of(rt.alloc(), first.map(|name| name.as_bytes()), text)?;
+        if script.len() > MOST {
+            drain(rt);
+        }
+        self.by_script(rt, &script)
+    }
+
     fn place(&self, rt: &HostRuntime) -> Result<u8, AskFault> {
         let place = find(rt, self.folder)?;
         let _printed = print(rt, place.run.as_str().as_bytes());
@@ -180,6 +204,23 @@ impl<'a> Client<'a> {
         }
         match read {
             Ok(_) => self.status(rt, self.by_script(rt, &script)),
+            Err(_) => {
+                self.say(rt, "input failed");
+                FAULT
+            }
+        }
+    }
+
+    /// Asks by the lines of svccfg of standard input, up to the one that ends the session, and prints the answer. The first name is
+    /// selected before, if there is one.
+    pub fn ask_lines(&self, rt: &HostRuntime, first: Option<&str>) -> u8 {
+        if let Some(name) = first {
+            if !are_words(&[name]) {
+                return self.bad_usage(rt);
+            }
+        }
+        match read_session(rt) {
+            Ok(text) => self.status(rt, self.by_lines(rt, first, &text)),
             Err(_) => {
                 self.say(rt, "input failed");
                 FAULT

@@ -38,7 +38,7 @@ pub data TaskTexts : Type 0 where
   Prop : Bool → Option (List ℕ) → List ℕ → List (List ℕ) → TaskTexts
   PlanStop : Option (List ℕ) → Option (List ℕ) → List ℕ → TaskTexts
   Audit : List ℕ → TaskTexts
-  Ask : AskForm → List ℕ → List ℕ → List (List ℕ) → TaskTexts
+  Ask : AskForm → Option (List ℕ) → List ℕ → List ℕ → List (List ℕ) → TaskTexts
   Replay : Option (List ℕ) → Option (List ℕ) → Option (List ℕ) → List ℕ → TaskTexts
 
 abbrev pub listing_texts : Listing → ListingTexts
@@ -75,7 +75,8 @@ texts_of (tasks.Prop configured name database words) =
 texts_of (tasks.PlanStop patience timeout database) =
     PlanStop (option_map (λ s. s.now) patience) (option_map (λ s. s.now) timeout) database.now
 texts_of (tasks.Audit trail) = Audit trail.now
-texts_of (tasks.Ask form folder program words) = Ask form folder.now program.now (map (λ w. w.now) words.items)
+texts_of (tasks.Ask form first folder program words) =
+    Ask form (option_map (λ s. s.now) first) folder.now program.now (map (λ w. w.now) words.items)
 texts_of (tasks.Replay until lines request recorded) =
     Replay (option_map (λ s. s.now) until) (option_map (λ s. s.now) lines) (option_map (λ s. s.now) request) recorded.now
 
@@ -186,12 +187,13 @@ ask_form_in rows =
       script = is_set (codes "SCRIPT") rows;
       place = is_set (codes "PLACE") rows;
       whole = is_set (codes "WHOLE") rows;
+      cfg = is_set (codes "CFG") rows;
     }
 
 abbrev pub ask_in : List Row → Option TaskTexts
 ask_in rows =
-    both (λ folder program. Ask (ask_form_in rows) folder program (words_in rows)) (first_of (codes "RUN") rows)
-    (first_of (codes "PROGRAM") rows)
+    both (λ folder program. Ask (ask_form_in rows) (first_of (codes "FIRST") rows) folder program (words_in rows))
+    (first_of (codes "RUN") rows) (first_of (codes "PROGRAM") rows)
 
 abbrev pub replay_in : List Row → Option TaskTexts
 replay_in rows =

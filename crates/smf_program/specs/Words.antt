@@ -187,8 +187,18 @@ program_rule = record (new_rule (codes "PROGRAM")) { required = true }
 abbrev pub form_of_ask_app : App
 form_of_ask_app = with_rule (with_rule (with_rule (new_app (codes "ask")) script_rule) place_rule) whole_rule
 
+-- `--cfg`: by lines of svccfg, and `--first NAME`: over this name
+abbrev pub cfg_lines_rule : Rule
+cfg_lines_rule = record (new_rule (codes "CFG")) { long = Some (codes "cfg"); action = Some SetTrue }
+
+abbrev pub first_rule : Rule
+first_rule = record (new_rule (codes "FIRST")) { long = Some (codes "first") }
+
+abbrev pub lines_of_ask_app : App
+lines_of_ask_app = with_rule (with_rule form_of_ask_app cfg_lines_rule) first_rule
+
 abbrev pub ask_app : App
-ask_app = with_rule (with_rule (with_rule form_of_ask_app folder_rule) program_rule) fmri_rule
+ask_app = with_rule (with_rule (with_rule lines_of_ask_app folder_rule) program_rule) fmri_rule
 
 -- the time after which nothing is run again, a file of lines that are done before, and a line that is asked at the end
 abbrev pub until_rule : Rule

@@ -53,6 +53,8 @@ pub struct AskForm {
     pub place: bool,
     /// So that the answer is printed as it is.
     pub whole: bool,
+    /// By the lines of svccfg of standard input.
+    pub cfg: bool,
 }
 
 /// The task that the program's words ask for.
@@ -139,9 +141,11 @@ pub enum Task<'a> {
     Audit {
         trail: &'a str,
     },
-    /// The answer of the server that has a folder, to the words of a program or to a script.
+    /// The answer of the server that has a folder, to the words of a program or to a script. Lines of svccfg may have a name that
+    /// is selected before them.
     Ask {
         form: AskForm,
+        first: Option<&'a str>,
         folder: &'a str,
         program: &'a str,
         words: Vec<&'a str>,
@@ -430,6 +434,7 @@ fn ask_form_in<'a>(found: &ArgMatches<'a>) -> AskForm
         script: is_set(found, "SCRIPT"),
         place: is_set(found, "PLACE"),
         whole: is_set(found, "WHOLE"),
+        cfg: is_set(found, "CFG"),
     }
 }
 
@@ -437,11 +442,13 @@ fn ask_in<'a>(alloc: Global, found: &ArgMatches<'a>) -> Result<Option<Task<'a>>,
     ensures { IfOk result (λ task. option_map texts_of task ≡ ask_in (rows_in found.now)) }
 {
     let form = ask_form_in(found);
+    let first = text_in(found, "FIRST");
     let words = words_in(alloc, found)?;
     match text_in(found, "RUN") {
         Some(folder) => match text_in(found, "PROGRAM") {
             Some(program) => Ok(Some(Task::Ask {
                 form,
+                first,
                 folder,
                 program,
                 words,

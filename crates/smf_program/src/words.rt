@@ -1,7 +1,7 @@
 ghost use Rattle.std.specs.Prelude.{◌≡◌, IfOk, false};
 ghost use Rattle.clap.specs.Words.{app_of, rule_of};
 ghost use Rattle.clap.specs.declared.builder.command.Command.TheViews.{out-Command as fields_of};
-ghost use Rattle.smf_program.specs.Words.{ask_app, asking_app, audit_app, backup_app, bare_app, bare_rule, cfg_app, check_app, columns_rule, compile_app, configured_rule, copy_rule, database_rule, diff_app, exact_rule, export_app, falling_rule, file_rule, fmri_rule, folder_rule, follow_rule, form_app, form_of_ask_app, json_rule, lead_app, lines_rule, long_rule, method_timeout_rule, metrics_app, metrics_rule, name_rule, named_app, patience_rule, place_rule, plan_stop_app, program_rule, prop_app, question_rule, read_rule, record_rule, recorded_rule, replay_app, replayed_app, request_rule, restarter_rule, rising_rule, run_app, running_app, script_rule, serve_app, show_app, shown_app, sim_app, site_rule, smf_app, table_app, trail_rule, undo_rule, until_rule, well_rule, whole_rule, why_app, with_lines_rule};
+ghost use Rattle.smf_program.specs.Words.{ask_app, asking_app, audit_app, backup_app, bare_app, bare_rule, cfg_app, cfg_lines_rule, check_app, columns_rule, compile_app, configured_rule, copy_rule, database_rule, diff_app, exact_rule, export_app, falling_rule, file_rule, first_rule, fmri_rule, folder_rule, follow_rule, form_app, form_of_ask_app, json_rule, lead_app, lines_of_ask_app, lines_rule, long_rule, method_timeout_rule, metrics_app, metrics_rule, name_rule, named_app, patience_rule, place_rule, plan_stop_app, program_rule, prop_app, question_rule, read_rule, record_rule, recorded_rule, replay_app, replayed_app, request_rule, restarter_rule, rising_rule, run_app, running_app, script_rule, serve_app, show_app, shown_app, sim_app, site_rule, smf_app, table_app, trail_rule, undo_rule, until_rule, well_rule, whole_rule, why_app, with_lines_rule};
 
 use clap::{Arg, ArgAction, Command};
 use std::alloc::{AllocError, Global};
@@ -517,11 +517,40 @@ fn form_of_ask_command<'a>(alloc: Global) -> Result<Command<'a>, AllocError>
     Ok(command)
 }
 
+/// The flag for lines of svccfg.
+fn cfg_lines<'a>(alloc: Global) -> Arg<'a>
+    ensures rule { rule_of result ≡ cfg_lines_rule }
+    ensures local { result.global ≡ false }
+{
+    Arg::new(alloc, "CFG")
+        .long("cfg")
+        .action(ArgAction::SetTrue)
+}
+
+/// The name that is selected before the lines.
+fn first<'a>(alloc: Global) -> Arg<'a>
+    ensures rule { rule_of result ≡ first_rule }
+    ensures local { result.global ≡ false }
+{
+    Arg::new(alloc, "FIRST").long("first")
+}
+
+/// By which lines of svccfg a server is asked.
+fn lines_of_ask_command<'a>(alloc: Global) -> Result<Command<'a>, AllocError>
+    ensures app { IfOk result (λ c. app_of c ≡ lines_of_ask_app) }
+    ensures local { IfOk result (λ c. (fields_of c).has_globals ≡ false) }
+{
+    let command = form_of_ask_command(alloc)?
+        .arg(cfg_lines(alloc))?
+        .arg(first(alloc))?;
+    Ok(command)
+}
+
 fn ask_command<'a>(alloc: Global) -> Result<Command<'a>, AllocError>
     ensures app { IfOk result (λ c. app_of c ≡ ask_app) }
     ensures local { IfOk result (λ c. (fields_of c).has_globals ≡ false) }
 {
-    let command = form_of_ask_command(alloc)?
+    let command = lines_of_ask_command(alloc)?
         .arg(folder(alloc))?
         .arg(program(alloc))?
         .arg(fmris(alloc))?;
@@ -625,7 +654,7 @@ fn asking_command<'a>(alloc: Global) -> Result<Command<'a>, AllocError>
 /// The program as clap knows it. It may be asked for its version, which clap does not know. `sim` may have a database. `run` has one, and contracts may be followed.
 /// `cfg` has a database, and may have a file of lines after `-f`. `serve` has a folder and a database, and may have a file of what is given to it. `why`, `show`, `prop`
 /// and `export` have a database and words that mean instances. `check` and `plan-stop` have a database, `compile`, `audit` and `replay` a file, and `diff` and
-/// `backup` both. `ask` has a folder, a program and words.
+/// `backup` both. `ask` has a folder, a program and words, and may have a name that is selected first.
 pub(crate) fn smf_command<'a>(alloc: Global) -> Result<Command<'a>, AllocError>
     ensures { IfOk result (λ c. app_of c ≡ smf_app) }
 {

@@ -18,7 +18,7 @@ returns-clause-followed c = (refl, refl)
 
 pub returns-clause-served : goal.returns-clause-served
 unfolding task_of smf_app clap_on_literals
-returns-clause-served c = (refl, refl, refl, refl)
+returns-clause-served c = (refl, refl, refl, refl, refl)
 
 pub returns-clause-asked : goal.returns-clause-asked
 unfolding task_of smf_app clap_on_literals
