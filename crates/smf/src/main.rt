@@ -132,7 +132,8 @@ fn do_task(rt: &HostRuntime, task: &Task<'_>) -> io::Result<u8> {
     }
 }
 
-/// Asks the server of a folder: by a line of words, by a script or by lines of svccfg. Or it tells where the server is.
+/// Asks the server of a folder: by a line of words, by a script, or by lines of svccfg, which may be typed. Or it tells where the
+/// server is.
 fn ask(
     rt: &HostRuntime,
     form: AskForm,
@@ -142,6 +143,8 @@ fn ask(
 ) -> u8 {
     if form.place {
         client.print_place(rt)
+    } else if form.talk {
+        client.talk(rt)
     } else if form.cfg {
         client.ask_lines(rt, first)
     } else if form.script {

@@ -1,3 +1,4 @@
 pub mod Answers
 pub mod Scripts
+pub mod Selections
 pub mod Words

@@ -10,7 +10,7 @@ use std::rt::HostRuntime;
 use std::{io, str};
 
 /// The status if something was refused.
-const REFUSED: u8 = 1;
+pub(crate) const REFUSED: u8 = 1;
 
 /// The status if the words are not taken.
 const USAGE: u8 = 2;
@@ -19,7 +19,7 @@ const USAGE: u8 = 2;
 const FAULT: u8 = 3;
 
 /// The status if no answer has come.
-const UNANSWERED: u8 = 4;
+pub(crate) const UNANSWERED: u8 = 4;
 
 /// The most bytes of a request.
 const MOST: usize = 4_194_304;
@@ -150,7 +150,7 @@ impl<'a> Client<'a> {
         self.show(rt, &reply)
     }
 
-    fn by_script(&self, rt: &HostRuntime, script: &[u8]) -> Result<u8, AskFault> {
+    pub(crate) fn by_script(&self, rt: &HostRuntime, script: &[u8]) -> Result<u8, AskFault> {
         let place = find(rt, self.folder)?;
         if script.len() > MOST {
             self.say(rt, "the lines have more than 4 MiB");
@@ -175,7 +175,7 @@ impl<'a> Client<'a> {
     }
 
     /// The status of what was done. A fault is told.
-    fn status(&self, rt: &HostRuntime, done: Result<u8, AskFault>) -> u8 {
+    pub(crate) fn status(&self, rt: &HostRuntime, done: Result<u8, AskFault>) -> u8 {
         match done {
             Ok(status) => status,
             Err(AskFault::Told(words)) => {

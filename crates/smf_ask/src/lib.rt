@@ -2,7 +2,8 @@
 //! that it is safe and returns.
 //! Modules: `client` (asks by a line, a script or lines of svccfg), `place` (the server that has a folder), `way` (who else may
 //! write there), `request` (a request and its answer), `script` (lines of svccfg as a script), `words` (the first word of such a
-//! line), `answer` (what is printed where), `fault` (why there is no answer).
+//! line), `talk` (lines that are typed), `selection` (what they have selected), `answer` (what is printed where), `fault` (why there
+//! is no answer).
 #![tactic(auto)]
 
 mod answer;
@@ -11,6 +12,8 @@ mod fault;
 mod place;
 mod request;
 mod script;
+mod selection;
+mod talk;
 mod way;
 mod words;
 

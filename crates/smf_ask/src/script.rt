@@ -39,7 +39,7 @@ pub(crate) fn ends_session(line: &[u8]) -> bool
 }
 
 /// Puts a line, as a script has it.
-fn put_line(script: &mut Vec<u8>, line: &[u8]) -> Result<(), AllocError>
+pub(crate) fn put_line(script: &mut Vec<u8>, line: &[u8]) -> Result<(), AllocError>
     ensures { OnOk result (script.new.items ≡ script.old.items ++ svccfg line.now) }
 {
     script.extend_from_slice(b"svccfg ")?;

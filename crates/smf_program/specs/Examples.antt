@@ -36,9 +36,9 @@ ContractsAreFollowed =
 abbrev pub ServersAreRead : Type 0
 ServersAreRead =
     (task_of (smf (codes "ask" ∷ codes "room" ∷ codes "svcs" ∷ codes "--" ∷ codes "-H" ∷ codes "web" ∷ []))
-    ≡ Some (Ask (record { script = false; place = false; whole = false; cfg = false }) None (codes "room") (codes "svcs") (codes "-H" ∷ codes "web" ∷ [])))
+    ≡ Some (Ask (record { script = false; place = false; whole = false; cfg = false; talk = false }) None (codes "room") (codes "svcs") (codes "-H" ∷ codes "web" ∷ [])))
     × (task_of (smf (codes "ask" ∷ codes "--cfg" ∷ codes "--first" ∷ codes "web" ∷ codes "room" ∷ codes "svccfg" ∷ []))
-    ≡ Some (Ask (record { script = false; place = false; whole = false; cfg = true }) (Some (codes "web")) (codes "room") (codes "svccfg") []))
+    ≡ Some (Ask (record { script = false; place = false; whole = false; cfg = true; talk = false }) (Some (codes "web")) (codes "room") (codes "svccfg") []))
     × (task_of (smf (codes "serve" ∷ codes "room" ∷ codes "a.db" ∷ []))
     ≡ Some (Serve None (codes "room") (codes "a.db")))
     × (task_of (smf (codes "serve" ∷ codes "room" ∷ codes "a.db" ∷ codes "--record" ∷ codes "x" ∷ []))

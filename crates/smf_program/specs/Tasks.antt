@@ -188,6 +188,7 @@ ask_form_in rows =
       place = is_set (codes "PLACE") rows;
       whole = is_set (codes "WHOLE") rows;
       cfg = is_set (codes "CFG") rows;
+      talk = is_set (codes "TALK") rows;
     }
 
 abbrev pub ask_in : List Row → Option TaskTexts

@@ -194,8 +194,12 @@ cfg_lines_rule = record (new_rule (codes "CFG")) { long = Some (codes "cfg"); ac
 abbrev pub first_rule : Rule
 first_rule = record (new_rule (codes "FIRST")) { long = Some (codes "first") }
 
+-- `--talk`: by lines of svccfg that are typed
+abbrev pub talk_rule : Rule
+talk_rule = record (new_rule (codes "TALK")) { long = Some (codes "talk"); action = Some SetTrue }
+
 abbrev pub lines_of_ask_app : App
-lines_of_ask_app = with_rule (with_rule form_of_ask_app cfg_lines_rule) first_rule
+lines_of_ask_app = with_rule (with_rule (with_rule form_of_ask_app cfg_lines_rule) first_rule) talk_rule
 
 abbrev pub ask_app : App
 ask_app = with_rule (with_rule (with_rule lines_of_ask_app folder_rule) program_rule) fmri_rule

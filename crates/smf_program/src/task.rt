@@ -55,6 +55,8 @@ pub struct AskForm {
     pub whole: bool,
     /// By the lines of svccfg of standard input.
     pub cfg: bool,
+    /// By lines of svccfg that are typed, one by one.
+    pub talk: bool,
 }
 
 /// The task that the program's words ask for.
@@ -435,6 +437,7 @@ fn ask_form_in<'a>(found: &ArgMatches<'a>) -> AskForm
         place: is_set(found, "PLACE"),
         whole: is_set(found, "WHOLE"),
         cfg: is_set(found, "CFG"),
+        talk: is_set(found, "TALK"),
     }
 }
 

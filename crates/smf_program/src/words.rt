@@ -1,7 +1,7 @@
 ghost use Rattle.std.specs.Prelude.{◌≡◌, IfOk, false};
 ghost use Rattle.clap.specs.Words.{app_of, rule_of};
 ghost use Rattle.clap.specs.declared.builder.command.Command.TheViews.{out-Command as fields_of};
-ghost use Rattle.smf_program.specs.Words.{ask_app, asking_app, audit_app, backup_app, bare_app, bare_rule, cfg_app, cfg_lines_rule, check_app, columns_rule, compile_app, configured_rule, copy_rule, database_rule, diff_app, exact_rule, export_app, falling_rule, file_rule, first_rule, fmri_rule, folder_rule, follow_rule, form_app, form_of_ask_app, json_rule, lead_app, lines_of_ask_app, lines_rule, long_rule, method_timeout_rule, metrics_app, metrics_rule, name_rule, named_app, patience_rule, place_rule, plan_stop_app, program_rule, prop_app, question_rule, read_rule, record_rule, recorded_rule, replay_app, replayed_app, request_rule, restarter_rule, rising_rule, run_app, running_app, script_rule, serve_app, show_app, shown_app, sim_app, site_rule, smf_app, table_app, trail_rule, undo_rule, until_rule, well_rule, whole_rule, why_app, with_lines_rule};
+ghost use Rattle.smf_program.specs.Words.{ask_app, asking_app, audit_app, backup_app, bare_app, bare_rule, cfg_app, cfg_lines_rule, check_app, columns_rule, compile_app, configured_rule, copy_rule, database_rule, diff_app, exact_rule, export_app, falling_rule, file_rule, first_rule, fmri_rule, folder_rule, follow_rule, form_app, form_of_ask_app, json_rule, lead_app, lines_of_ask_app, lines_rule, long_rule, method_timeout_rule, metrics_app, metrics_rule, name_rule, named_app, patience_rule, place_rule, plan_stop_app, program_rule, prop_app, question_rule, read_rule, record_rule, recorded_rule, replay_app, replayed_app, request_rule, restarter_rule, rising_rule, run_app, running_app, script_rule, serve_app, show_app, shown_app, sim_app, site_rule, smf_app, table_app, talk_rule, trail_rule, undo_rule, until_rule, well_rule, whole_rule, why_app, with_lines_rule};
 
 use clap::{Arg, ArgAction, Command};
 use std::alloc::{AllocError, Global};
@@ -535,6 +535,16 @@ fn first<'a>(alloc: Global) -> Arg<'a>
     Arg::new(alloc, "FIRST").long("first")
 }
 
+/// The flag for lines of svccfg that are typed.
+fn talk<'a>(alloc: Global) -> Arg<'a>
+    ensures rule { rule_of result ≡ talk_rule }
+    ensures local { result.global ≡ false }
+{
+    Arg::new(alloc, "TALK")
+        .long("talk")
+        .action(ArgAction::SetTrue)
+}
+
 /// By which lines of svccfg a server is asked.
 fn lines_of_ask_command<'a>(alloc: Global) -> Result<Command<'a>, AllocError>
     ensures app { IfOk result (λ c. app_of c ≡ lines_of_ask_app) }
@@ -542,7 +552,8 @@ fn lines_of_ask_command<'a>(alloc: Global) -> Result<Command<'a>, AllocError>
 {
     let command = form_of_ask_command(alloc)?
         .arg(cfg_lines(alloc))?
-        .arg(first(alloc))?;
+        .arg(first(alloc))?
+        .arg(talk(alloc))?;
     Ok(command)
 }
 
