@@ -24,16 +24,14 @@ pub record Knowledge : Type 0 where
   pub instances : List KnownInstance
   pub runs : List KnownRun
 
--- the knowledge, the room for more instances and runs, and the instance whose tick is made ahead
+-- the knowledge, and the room for more instances and runs
 pub record Kept : Type 0 where
   pub known : Knowledge
   pub instances_room : ℕ
   pub runs_room : ℕ
-  pub ready : Option ℕ
 
-abbrev pub kept_knowledge : Knowledge → ℕ → ℕ → Option ℕ → Kept
-kept_knowledge k instances runs ready =
-    record { known = k; instances_room = instances; runs_room = runs; ready = ready }
+abbrev pub kept_knowledge : Knowledge → ℕ → ℕ → Kept
+kept_knowledge k instances runs = record { known = k; instances_room = instances; runs_room = runs }
 
 abbrev pub by_instance : By KnownInstance ℕ
 by_instance = by_number (λ i. i.instance)

@@ -1,12 +1,11 @@
 -- The instances that are not at rest, and what is kept of them.
-use Rattle.std.specs.Prelude.{◌≡◌, ◌+◌, ◌≤◌, ℕ, not, List, [], ◌∷◌, map, filter, Bool, true, false, Option, Some, None, option_map}
+use Rattle.std.specs.Prelude.{◌≡◌, ◌+◌, ◌≤◌, ℕ, not, List, [], ◌∷◌, map, filter, Bool, true, false, Option, Some, None}
 use Rattle.std.specs.Ordering.{is_eq, nat_cmp}
 use Rattle.smf_fmri.specs.ByKey.{By, Rises, WithRoom, by_number, lookup, list_with_item, without}
 use Rattle.smf_restarter.specs.declared.known.KnownInstance.{KnownInstance}
 use Rattle.smf_restarter.specs.declared.known.KnownRun.{KnownRun}
-use Rattle.smf_restarter.specs.declared.reply.Ready.{Ready}
 use Rattle.smf_restarter.specs.Knowledge.{Knowledge, at_first, by_instance, by_run}
-use Rattle.smf_restarter.specs.Ticks.{rests, reply_to_tick}
+use Rattle.smf_restarter.specs.Ticks.{rests}
 
 -- instances and runs stand in the order of their keys
 abbrev pub IsOrdered : Knowledge → Type 0
@@ -52,20 +51,10 @@ abbrev pub IsWatchedBut : ℕ → List ℕ → List KnownInstance → List Known
 IsWatchedBut m ns is rs = (n : ℕ) → is_eq (nat_cmp m n) ≡ false
     → lookup by_itself ns n ≡ restless_number rs (lookup by_instance is n)
 
--- the reply that is made ahead is that to the tick of its instance
-abbrev pub IsReady : Knowledge → Option Ready → Type 0
-IsReady k None = Unit {0}
-IsReady k (Some r) = r.reply ≡ reply_to_tick k r.instance
-
-abbrev pub ready_for : Option Ready → Option ℕ
-ready_for o = option_map (λ r. r.instance) o
-
--- the lists are watched, and have room for so many more instances and runs, and to note the instances that these touch.
--- A tick that is made ahead is that of what is known
-pub record IsRestarter (k : Knowledge) (ready : Option Ready) (ns : WithRoom ℕ) (is : WithRoom KnownInstance)
-    (rs : WithRoom KnownRun) (instances runs : ℕ) : Type 0 where
+-- the lists are watched, and have room for so many more instances and runs, and to note the instances that these touch
+pub record IsRestarter (k : Knowledge) (ns : WithRoom ℕ) (is : WithRoom KnownInstance) (rs : WithRoom KnownRun)
+    (instances runs : ℕ) : Type 0 where
   pub watched : IsWatched ns.items is.items rs.items
   pub instances_room : instances ≤ is.room
   pub runs_room : runs ≤ rs.room
   pub touched_room : instances + runs + runs ≤ ns.room
-  pub is_ready : IsReady k ready

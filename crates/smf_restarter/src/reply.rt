@@ -81,10 +81,3 @@ pub struct Reply {
     pub begun: Items<Begun>,
     pub call: Call,
 }
-
-/// The tick of an instance, made ahead.
-#[derive(Drop)]
-pub(crate) struct Ready {
-    pub(crate) instance: u64,
-    pub(crate) reply: Reply,
-}

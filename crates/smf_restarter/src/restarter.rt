@@ -1,5 +1,5 @@
 ghost use Rattle.std.specs.Option.{option_copied};
-ghost use Rattle.std.specs.Prelude.{◌≡◌, ◌+◌, ◌<◌, ◌≤◌, ◌⊎◌, length, option_to_list, option_map, true, IfOk, None, OnErr, OnOk, Some};
+ghost use Rattle.std.specs.Prelude.{◌≡◌, ◌+◌, ◌<◌, ◌≤◌, ◌⊎◌, length, option_to_list, true, IfOk, OnErr, OnOk};
 ghost use Rattle.smf_fmri.specs.ByKey.{list_with_item, put_all};
 ghost use Rattle.smf_restarter.specs.Answers.{change_on_answer, change_on_list, change_on_report, timed_out};
 ghost use Rattle.smf_restarter.specs.Changes.{knowledge_after, instances_without, nothing, phase_on, instances_after_turn, no_change};
@@ -14,7 +14,7 @@ use crate::answers::{change_on_answer, change_on_list, change_on_report, timed_o
 use crate::forgotten::keep_needed;
 use crate::known::{KnownInstance, KnownRun, Phase, Stage};
 use crate::replies::reply_to_message;
-use crate::reply::{Answer, Course, CourseChange, KnowledgeChange, Ready, Reply};
+use crate::reply::{Answer, Course, CourseChange, KnowledgeChange, Reply};
 use crate::restless_list::{has_none, is_noted, is_up, judge, reserve_touched};
 use crate::ticks::{own_tick, reply_to_tick};
 use smf_contract::{Report, Status};
@@ -23,8 +23,8 @@ use smf_wire::Message;
 use std::alloc::{AllocError, Global};
 use std::marker::Model;
 
-/// A restarter from one launch on, svc.startd's own or a delegated one. Contracts see what it knows, how much room it
-/// has for more, and the instance whose tick is made ahead.
+/// A restarter from one launch on, svc.startd's own or a delegated one. Contracts see what it knows, and how much room it
+/// has for more.
 pub struct Restarter {
     alloc: Global,
     pub(crate) name: InstanceFmri,
@@ -39,7 +39,6 @@ pub struct Restarter {
     /// For so many more instances and runs there is room in all lists.
     instances_room: usize,
     runs_room: usize,
-    ready: Option<Ready>,
 }
 
 /// Crates above call this, and prove nothing of the parts that go.
@@ -57,14 +56,13 @@ impl Drop for Restarter {
             restless: _restless,
             instances_room: _instances_room,
             runs_room: _runs_room,
-            ready: _ready,
         } = self;
     }
 }
 
 impl Model for Restarter {
     ghost use Rattle.smf_restarter.specs.Knowledge.{Kept, kept_knowledge};
-    ghost use Rattle.smf_restarter.specs.Watched.{IsRestarter, ready_for};
+    ghost use Rattle.smf_restarter.specs.Watched.{IsRestarter};
 
     ghost Value = { Kept };
 
@@ -77,7 +75,7 @@ impl Model for Restarter {
           stage = r.stage;
           instances = r.instances.items;
           runs = r.runs.items;
-        }) r.instances_room r.runs_room (ready_for r.ready) };
+        }) r.instances_room r.runs_room };
 
     ghost invariant = { λ r.
         IsRestarter (record {
@@ -88,7 +86,7 @@ impl Model for Restarter {
           stage = r.stage;
           instances = r.instances.items;
           runs = r.runs.items;
-        }) r.ready r.restless r.instances r.runs r.instances_room r.runs_room };
+        }) r.restless r.instances r.runs r.instances_room r.runs_room };
 }
 
 impl Restarter {
@@ -108,7 +106,6 @@ impl Restarter {
             restless: Table::new(alloc),
             instances_room: 0,
             runs_room: 0,
-            ready: None,
         }
     }
 
@@ -245,7 +242,6 @@ impl Restarter {
         ensures instances_room { OnOk result (instances ≤ self.new.instances_room) }
         ensures runs_room { OnOk result (runs ≤ self.new.runs_room) }
         ensures missing { OnErr result ((self.old.instances_room < instances) ⊎ (self.old.runs_room < runs)) }
-        ensures ready { self.new.ready ≡ self.old.ready }
     {
         if self.instances_room < instances {
             return self.make_room(instances, runs);
@@ -260,7 +256,6 @@ impl Restarter {
         ensures known { self.new.known ≡ self.old.known }
         ensures instances_room { OnOk result (instances ≤ self.new.instances_room) }
         ensures runs_room { OnOk result (runs ≤ self.new.runs_room) }
-        ensures ready { self.new.ready ≡ self.old.ready }
     {
         self.instances_room = 0;
         self.runs_room = 0;
@@ -270,51 +265,6 @@ impl Restarter {
         self.instances_room = instances;
         self.runs_room = runs;
         Ok(())
-    }
-
-    /// Makes the tick of an instance ahead, in place of another, and room for one instance and one run. It takes memory
-    /// only if room for the one or for the other is not there, or if the tick needs memory. Then that tick needs no more
-    /// memory, and one change, of its answer or of a report, has its room. If memory runs out it knows what it knew.
-    pub fn reserve_tick(&mut self, instance: u64) -> Result<(), AllocError>
-        ensures known { self.new.known ≡ self.old.known }
-        ensures ready { OnOk result (self.new.ready ≡ Some instance) }
-        ensures instances_room { OnOk result (1 ≤ self.new.instances_room) }
-        ensures runs_room { OnOk result (1 ≤ self.new.runs_room) }
-        ensures missing { OnErr result
-            (((self.old.instances_room < 1) ⊎ (self.old.runs_room < 1)) ⊎ (needs_memory (reply_to_tick self.old.known instance) ≡ true)) }
-    {
-        match self.reserve(1, 1) {
-            Err(fault) => Err(fault),
-            Ok(()) => self.make_tick(instance),
-        }
-    }
-
-    fn make_tick(&mut self, instance: u64) -> Result<(), AllocError>
-        ensures known { self.new.known ≡ self.old.known }
-        ensures ready { OnOk result (self.new.ready ≡ Some instance) }
-        ensures instances_room { self.new.instances_room ≡ self.old.instances_room }
-        ensures runs_room { self.new.runs_room ≡ self.old.runs_room }
-        ensures missing { OnErr result (needs_memory (reply_to_tick self.old.known instance) ≡ true) }
-    {
-        match self.reply_to_tick(instance) {
-            Err(fault) => Err(fault),
-            Ok(reply) => {
-                set_ready(&mut self.ready, Some(Ready { instance, reply }));
-                Ok(())
-            }
-        }
-    }
-
-    /// Its reply to the tick that was made ahead, if one was. It takes no memory. A change of what is known drops that
-    /// tick.
-    pub fn take_tick(&mut self) -> Option<Reply>
-        ensures reply { result ≡ option_map (reply_to_tick self.old.known) self.old.ready }
-        ensures taken { self.new ≡ record self.old { ready = None } }
-    {
-        match self.ready.take() {
-            None => None,
-            Some(ready) => Some(ready.reply),
-        }
     }
 
     /// Makes a change, for which there is room. The next change needs room of its own.
@@ -342,7 +292,6 @@ impl Restarter {
         forget_in(&mut self.instances, &mut self.restless, &self.runs, forget);
         self.instances_room = 0;
         self.runs_room = 0;
-        set_ready(&mut self.ready, None);
     }
 
     /// Forgets the runs that are over: their contracts have no members, and neither a row nor a method asks for them.
@@ -350,7 +299,6 @@ impl Restarter {
         ensures { self.new.known ≡ without_past_runs self.old.known }
     {
         keep_needed(&mut self.runs, &self.instances);
-        set_ready(&mut self.ready, None);
     }
 
     /// True if it is up, and awaits and owes nothing.
@@ -360,12 +308,6 @@ impl Restarter {
         let none = has_none(self.restless());
         is_up(self.stage) && none
     }
-}
-
-fn set_ready(ready: &mut Option<Ready>, next: Option<Ready>)
-    ensures { ready.new ≡ next }
-{
-    *ready = next;
 }
 
 /// Puts an instance in its place, for which there is room.

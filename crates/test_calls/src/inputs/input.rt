@@ -30,18 +30,12 @@ fn reply_to_message(
     }
 }
 
-/// A tick of an instance, which is made ahead and then taken.
-fn ticked_ahead(restarter: &mut Restarter, instance: u64) -> Result<Option<Reply>, AllocError> {
-    restarter.reserve_tick(instance)?;
-    Ok(restarter.take_tick())
-}
-
 /// A tick of an instance, or the restarter's own, which is that of 0.
-fn reply_to_tick(restarter: &mut Restarter, text: &str) -> Result<Option<Reply>, AllocError> {
+fn reply_to_tick(restarter: &Restarter, text: &str) -> Result<Option<Reply>, AllocError> {
     match read_count(text) {
         None => Ok(None),
         Some(0) => Ok(Some(restarter.own_tick()?)),
-        Some(instance) => ticked_ahead(restarter, instance),
+        Some(instance) => Ok(Some(restarter.reply_to_tick(instance)?)),
     }
 }
 

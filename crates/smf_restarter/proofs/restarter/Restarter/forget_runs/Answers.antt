@@ -9,5 +9,4 @@ invariant_of-self c =
       instances_room = c.self.invariant.instances_room;
       runs_room = omega (arith, c.self.invariant.runs_room, c.keep_needed.ensures.room);
       touched_room = c.self.invariant.touched_room;
-      is_ready = rw c.set_ready.ensures tt;
     }

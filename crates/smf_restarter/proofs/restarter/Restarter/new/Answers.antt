@@ -9,5 +9,4 @@ invariant_of-result c =
       instances_room = omega arith;
       runs_room = omega arith;
       touched_room = omega arith;
-      is_ready = tt;
     }
