@@ -1,7 +1,6 @@
 // Whether trails in files are safe: that of one script, or the chronicle of all servers of a database.
 use crate::exports::write_out;
-use smf_audit::{Breach, Entry, audit};
-use smf_chronicle::{Chronicle, ReadFault, first_link, read_lines};
+use smf_chronicle::{Breach, Chronicle, Entry, ReadFault, audit, first_link, read_lines};
 use smf_lines::TextWriter;
 use smf_program::{tell_no_input, tell_no_memory};
 use smf_world::Item;

@@ -1,8 +1,8 @@
 // Whole copies of databases.
-use smf_database::{Closed, open_copy, serve_cfg_file};
 use smf_host::read_files;
 use smf_lines::TextWriter;
 use smf_program::{tell_no_database, tell_no_memory};
+use smf_runs::{Closed, open_copy, serve_cfg_file};
 use std::fs::File;
 use std::io::Write;
 use std::os::unix::fs::OpenOptionsExt;

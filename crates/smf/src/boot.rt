@@ -1,6 +1,6 @@
 // A boot that failed, and the wait for the next one.
-use smf_cfg::tell;
 use smf_host::{FileDesk, SystemTimer};
+use smf_lines::tell;
 use smf_node::NodeFault;
 use smf_script::{ScriptFault, fault_text};
 use smf_server::{Desk, ServerInput, Timer};

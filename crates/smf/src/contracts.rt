@@ -1,15 +1,13 @@
 // Scripts over a database, with contracts that are followed through forks.
 use crate::questions::ask_behind;
-use smf_cfg::tell;
-use smf_database::close;
-use smf_follow::{Contracts, FollowedKids};
+use smf_edge::{Contracts, FollowedKids};
 use smf_host::{
     Database, RoomHold, close_room, end_listed, form_text, note_run, room_text, take_room,
 };
 use smf_keeper::{BeginFault, Manner, boot};
-use smf_lines::NotedReader;
+use smf_lines::{NotedReader, tell};
 use smf_program::tell_no_database;
-use smf_serve::{Closed, serve_file};
+use smf_runs::{Closed, close, serve_file};
 use std::io;
 use std::io::BufReader;
 

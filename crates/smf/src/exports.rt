@@ -4,16 +4,16 @@ ghost use Rattle.std.specs.Prelude.{IfOk};
 
 use crate::files::is_site;
 use crate::sites::lines_of_site;
-use smf_cfg::tell;
-use smf_database::{held_copy, missed_text, patterns_of, texts_of};
+use smf_admin::patterns_of;
 use smf_export::{
     Choice, ExportFault, Undo, asked_by, difference_from, export, script_of, undo_from,
 };
 use smf_fmri::{Items, Text};
 use smf_host::read_files;
-use smf_lines::{NotedReader, TextWriter};
+use smf_lines::{NotedReader, TextWriter, tell};
 use smf_model::Tables;
 use smf_program::{Lead, tell_no_database, tell_no_input, tell_no_memory};
+use smf_runs::{held_copy, missed_text, texts_of};
 use std::alloc::{AllocError, Global};
 use std::fs::File;
 use std::io::BufReader;

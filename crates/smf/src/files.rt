@@ -5,7 +5,7 @@ use smf_fmri::{Items, Text};
 use smf_host::{Database, read_files};
 use smf_lines::{LineReader, NotedReader};
 use smf_program::{tell_no_database, tell_no_input, tell_no_memory};
-use smf_serve::{Closed, check_copy, programs_copy, serve_cfg_file, serve_copy, why_copy};
+use smf_runs::{Closed, check_copy, programs_copy, serve_cfg_file, serve_copy, why_copy};
 use std::alloc::AllocError;
 use std::fs::File;
 use std::io::BufReader;

@@ -44,7 +44,7 @@ use smf_lines::NotedReader;
 use smf_program::{
     AskForm, Refusal, Task, read_task, refusal_of_words, refuse, show_version, tell_no_memory,
 };
-use smf_serve::serve_sim;
+use smf_runs::serve_sim;
 use std::io::BufReader;
 use std::path::PathBuf;
 use std::process::ExitCode;

@@ -1,26 +1,10 @@
 // What the chronicle beside a database tells of the past of its instances.
-use smf_audit::Entry;
-use smf_chronicle::{ReadFault, first_link, read_lines};
+use smf_chronicle::{Entry, ReadFault, first_link, read_lines};
 use smf_fmri::Items;
-use smf_host::path_beside;
+use smf_host::{milliseconds, path_beside};
 use smf_show::{Dated, DatedChronicle};
 use std::alloc::{AllocError, Global};
-use std::time::{SystemTime, UNIX_EPOCH};
 use std::{fs, io};
-
-/// The milliseconds since 1970, or 0 if the clock does not tell.
-fn milliseconds(rt: &HostRuntime) -> u64 {
-    let Ok(now) = SystemTime::now(rt) else {
-        return 0;
-    };
-    match now.duration_since(UNIX_EPOCH) {
-        Ok(since) => since
-            .as_secs()
-            .saturating_mul(1000)
-            .saturating_add(u64::from(since.subsec_millis())),
-        Err(_) => 0,
-    }
-}
 
 /// The text of a file. One that cannot be read has none.
 fn text_in(rt: &HostRuntime, path: &str) -> io::Result<String> {
@@ -117,7 +101,7 @@ pub(crate) fn chronicle_beside(rt: &HostRuntime, database: &str) -> io::Result<D
     put_file(rt, &mut lines, path.as_str())?;
     Ok(DatedChronicle {
         lines,
-        read_at: milliseconds(rt),
+        read_at: milliseconds(rt).unwrap_or(0),
     })
 }
 

@@ -1,11 +1,10 @@
 // Scripts over a database and processes of the system, whose children are listed beside it.
 use crate::questions::ask_behind;
-use smf_database::close;
 use smf_edge::OsKids;
 use smf_host::{Database, list_of, path_beside, place_of, tell_sweep};
 use smf_lines::NotedReader;
 use smf_program::tell_no_database;
-use smf_serve::{Closed, serve_file};
+use smf_runs::{Closed, close, serve_file};
 use smf_sweep::Lister;
 use std::io;
 use std::io::BufReader;

@@ -1,18 +1,15 @@
 // Scripts behind which it is asked on what evidence instances were started and stopped last.
 use crate::exports::{REFUSED, write_out};
-use smf_cfg::tell;
-use smf_database::{
-    Served, is_named, missed_text, open_copy, patterns_of, tell_open, texts_of, words_without_match,
-};
+use smf_admin::{is_named, patterns_of, unmatched_words};
 use smf_edge::{Kids, TableKids};
 use smf_fmri::Text;
 use smf_host::{Provenance, read_files};
-use smf_lines::{NotedReader, TextWriter};
+use smf_lines::{NotedReader, TextWriter, tell};
 use smf_model::{Journal, NoJournal, Plain};
 use smf_node::{Node, NodeFault};
 use smf_program::{tell_no_database, tell_no_memory};
-use smf_run::{end_all, run_script};
-use smf_script::{ScriptFault, fault_text};
+use smf_runs::{Served, missed_text, open_copy, tell_open, texts_of};
+use smf_script::{ScriptFault, end_all, fault_text, run_script};
 use smf_state::View;
 use smf_store::open_repository;
 use sqlite::{Alter, Connection};
@@ -57,7 +54,7 @@ fn answer<J: Journal>(rt: &HostRuntime, node: &Node<J>, question: &str) -> Resul
     told.follow_whole(node)?;
     let view = node.repository().view()?;
     let words = texts_of(alloc, &[question])?;
-    let missed = words_without_match(alloc, view.items.as_slice(), words.as_slice())?;
+    let missed = unmatched_words(alloc, view.items.as_slice(), words.as_slice())?;
     if !missed.as_slice().is_empty() {
         let text = missed_text(alloc, missed.as_slice())?;
         let _told = rt.stderr().write_text(text.as_str().as_bytes());

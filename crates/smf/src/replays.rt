@@ -1,7 +1,7 @@
 // Records of servers that are run again.
 ghost use Rattle.smf_contract.specs.Laws.{Ascends};
-ghost use Rattle.smf_follow.specs.Beginnings.{found_posts};
-ghost use Rattle.smf_follow.specs.Phases.{posts};
+ghost use Rattle.smf_edge.specs.FollowedBeginnings.{found_posts};
+ghost use Rattle.smf_edge.specs.Phases.{posts};
 ghost use Rattle.std.specs.Prelude.{◌≡◌, map};
 
 use crate::exports::write_out;
@@ -11,22 +11,20 @@ use crate::shows::BAD_USAGE;
 use crate::sites::lines_of_site;
 use crate::times::time_in;
 use sha2::{Digest, Sha256};
-use smf_cfg::tell;
-use smf_database::{Served, open_copy, serve_cfg, tell_open};
-use smf_follow::FollowedKids;
+use smf_edge::FollowedKids;
 use smf_host::{read_files, record_database};
-use smf_lines::{LineReader, NotedReader, TextWriter};
+use smf_lines::{LineReader, NotedReader, TextWriter, tell};
 use smf_model::{Journal, Plain};
 use smf_node::Node;
 use smf_program::{tell_no_database, tell_no_input, tell_no_memory};
 use smf_record::{
     Gathered, ReplayedChildren, ReplayedContracts, ReplayedDesk, ReplayedTimer, Said, children_of,
 };
+use smf_runs::{Served, open_copy, serve_cfg, tell_open};
 use smf_server::{ServerInput, continue_over, stay_over};
 use smf_store::open_repository;
 use smf_watch::{Chronicle, Ender, Retry, Term};
-use smf_words::trail_text;
-use smf_world::Item;
+use smf_world::{Item, trail_text};
 use sqlite::{Alter, Connection};
 use std::alloc::{AllocError, Global};
 use std::collections::VecDeque;

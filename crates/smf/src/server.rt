@@ -1,19 +1,16 @@
 // A service manager that stays, over a database and the requests of a folder.
 ghost use Rattle.smf_contract.specs.Laws.{Ascends};
-ghost use Rattle.smf_follow.specs.Beginnings.{found_posts};
-ghost use Rattle.smf_follow.specs.Phases.{posts};
+ghost use Rattle.smf_edge.specs.FollowedBeginnings.{found_posts};
+ghost use Rattle.smf_edge.specs.Phases.{posts};
 ghost use Rattle.std.specs.Prelude.{◌≡◌, map};
 
 use crate::backups::{OWN, copy_database};
 use crate::beginnings::{Beginning, beginning_text};
 use crate::boot::Tries;
 use crate::contracts::begin_text;
-use smf_cfg::tell;
 use smf_contract::Found;
-use smf_database::{Closed, Served, close, tell_open};
-use smf_edge::Kids;
+use smf_edge::{FollowedKids, Kids};
 use smf_fmri::Number;
-use smf_follow::FollowedKids;
 use smf_host::{
     Database, FileChronicle, FileDesk, FileEnder, Hold, LentDesk, RecordFile, RecordedChronicle,
     Recorder, RoomFault, RoomHold, SystemTimer, TrailFile, close_room, end_listed, ender_in,
@@ -22,11 +19,13 @@ use smf_host::{
     take_lock, take_room,
 };
 use smf_keeper::{Adopted, Manner, boot, go_on};
+use smf_lines::tell;
 use smf_model::{Journal, Plain};
 use smf_node::{ContinueFault, NodeFault};
 use smf_program::tell_no_database;
 use smf_record::{RecordedContracts, RecordedDesk, RecordedTimer};
 use smf_room::Room;
+use smf_runs::{Closed, Served, close, tell_open};
 use smf_server::{Leftover, Life, Onward, Unborn, Uncontinued, continue_over, stay_over};
 use smf_store::open_repository;
 use smf_watch::Retry;
@@ -295,7 +294,7 @@ fn serve_from_boot<'a, R: Room + Drop>(
         causes: new_causes(rt, room),
         trail,
     };
-    let mut ender = ender_in(rt, room)?;
+    let mut ender = ender_in(rt, room);
     let contracts = RecordedContracts {
         contracts,
         sink: recorder,
@@ -345,7 +344,7 @@ fn serve_adopted<'a, R: Room + Drop>(
         causes: older_causes(rt, room)?,
         trail,
     };
-    let mut ender = ender_in(rt, room)?;
+    let mut ender = ender_in(rt, room);
     let beginning = Beginning::GoesOn(last, found, older_retries(rt, room)?);
     serve_with(
         rt,

@@ -3,11 +3,12 @@ ghost use Rattle.smf_model.specs.Laws.{IsNumbered};
 
 use crate::exports::{FAULT, REFUSED, held_in, write_out};
 use crate::pasts::{chronicle_beside, no_chronicle};
-use smf_database::{missed_text, texts_of, words_without_match};
+use smf_admin::unmatched_words;
 use smf_fmri::{Fmri, InstanceFmri, Items, Text};
 use smf_lines::TextWriter;
 use smf_model::{NoJournal, Plain, Tables};
 use smf_program::{Listing, tell_no_memory};
+use smf_runs::{missed_text, texts_of};
 use smf_show::{
     Column, Configured, DatedChronicle, Direction, Selection, SortKey, TableOptions, all_well,
     configured_instances, json_of, long_of, metrics_of, properties_text, running_instances,
@@ -183,7 +184,7 @@ fn tell_missed(
     words: &[Text],
 ) -> Result<u8, AllocError> {
     let view = repository.view()?;
-    let missed = words_without_match(rt.alloc(), view.items.as_slice(), words)?;
+    let missed = unmatched_words(rt.alloc(), view.items.as_slice(), words)?;
     if missed.as_slice().is_empty() {
         return Ok(0);
     }

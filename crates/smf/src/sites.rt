@@ -1,6 +1,5 @@
 // Files of tables that are services.
-use smf_cfg::tell;
-use smf_lines::TextWriter;
+use smf_lines::{TextWriter, tell};
 use smf_program::{tell_no_input, tell_no_memory};
 use smf_toml::{SiteFault, entries_of, lines_of};
 use std::{fs, io};

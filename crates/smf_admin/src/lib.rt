@@ -17,5 +17,5 @@ pub use instances::{Found, found_of};
 pub use law::{answers_are_of_what_matches, listings_are_in_order, words_are_read_so};
 pub use list_options::{Chosen, Options, Relation, options_of};
 pub use messages::{no_match_text, several_text, svcadm_usage, svcs_usage};
-pub use output::{Listing, svcs_text};
-pub use requests::{AdminCommand, AdminWords, Asked, commands_of, read_words};
+pub use output::{Listing, is_named, patterns_of, put_blanks, svcs_text, unmatched_words};
+pub use requests::{AdminCommand, AdminWords, Asked, commands_of, copies, read_words};

@@ -56,7 +56,8 @@ fn pattern_of(alloc: Global, word: &Text) -> Result<Option<Pattern>, AllocError>
     }
 }
 
-fn patterns_of(alloc: Global, words: &[Text]) -> Result<Vec<Pattern>, AllocError>
+/// The patterns that words are. A word that is none is left out.
+pub fn patterns_of(alloc: Global, words: &[Text]) -> Result<Vec<Pattern>, AllocError>
     ensures { IfOk result (λ all. all.items ≡ patterns_of words.now) }
 {
     let mut all = Vec::new(alloc);
@@ -74,7 +75,8 @@ fn is_match(pattern: &Pattern, name: &InstanceFmri) -> bool
     pattern.matches(name.as_fmri())
 }
 
-fn is_named(patterns: &[Pattern], name: &InstanceFmri) -> bool
+/// True if one of the patterns matches an instance's name.
+pub fn is_named(patterns: &[Pattern], name: &InstanceFmri) -> bool
     ensures { result ≡ is_named patterns.now name.now }
 {
     patterns.iter().any(|pattern| is_match(pattern, name))
@@ -96,7 +98,7 @@ fn is_matched(alloc: Global, view: &[ViewItem], word: &Text) -> Result<bool, All
 }
 
 /// The words that match no instance.
-fn unmatched_words(
+pub fn unmatched_words(
     alloc: Global,
     view: &[ViewItem],
     words: &[Text],
@@ -244,7 +246,8 @@ fn entries(
 
 // ---- the text
 
-fn put_blanks(out: &mut String, count: usize) -> Result<(), AllocError>
+/// Puts so many blanks.
+pub fn put_blanks(out: &mut String, count: usize) -> Result<(), AllocError>
     ensures { OnOk result (string_bytes out.new ≡ string_bytes out.old ++ replicate count 32) }
 {
     for _ in 0..count {

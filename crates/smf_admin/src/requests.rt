@@ -122,7 +122,8 @@ fn names_in(verb: Verb, operands: &[Text]) -> &[Text]
     }
 }
 
-fn copies(alloc: Global, words: &[Text]) -> Result<Items<Text>, AllocError>
+/// Copies of words.
+pub fn copies(alloc: Global, words: &[Text]) -> Result<Items<Text>, AllocError>
     ensures { IfOk result (λ all. all ≡ words.now) }
 {
     let mut all = Items::new(alloc);

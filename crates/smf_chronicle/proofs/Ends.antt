@@ -12,8 +12,8 @@ use Rattle.std.proofs.lemmas.List.Folds.{list_all-append}
 use Rattle.std.proofs.lemmas.Str.Parse.{IsNumeralModel, numerals_by_value}
 use Rattle.hex.specs.Hex.{IsBytes, encode_lower, encode_with, hex_digit_value, lower_digits}
 use Rattle.hex.proofs.HexLemmas.{IsDigits-lower_digits}
-use Rattle.smf_audit.specs.declared.entry.Entry.{Entry}
-use Rattle.smf_audit.specs.declared.entry.Entry.TheVariants.{Happened, Life, Row, Living}
+use Rattle.smf_chronicle.specs.declared.entry.Entry.{Entry}
+use Rattle.smf_chronicle.specs.declared.entry.Entry.TheVariants.{Happened, Life, Row, Living}
 use Rattle.smf_contract.specs.declared.cookie.Method.{Method}
 use Rattle.smf_contract.specs.declared.cookie.Method.TheVariants.{Start, Stop, Refresh}
 use Rattle.smf_fmri.specs.Counts.{is_decimal, no_space}
@@ -28,7 +28,9 @@ use Rattle.smf_value.specs.Texts.{is_plain}
 use Rattle.smf_world.specs.declared.item.Item.TheVariants.{Boot, Committed, Held, Spawned, Emptied}
 use Rattle.smf_chronicle.specs.Lines.{are_seconds, cut_at, is_clock, no_end}
 use Rattle.smf_chronicle.specs.Texts.{IsEntry, entry_parts, entry_text, spaced}
-use Rattle.smf_chronicle.specs.Words.{entry_word, method_text, next_text, word_text}
+use Rattle.smf_chronicle.specs.Words.{entry_word, word_text}
+use Rattle.smf_method.specs.Tokens.{method_text}
+use Rattle.smf_world.specs.TrailText.{next_text}
 use Rattle.smf_chronicle.specs.declared.word.Word.{Word}
 use Rattle.smf_chronicle.specs.declared.word.Word.TheVariants as words
 use Rattle.smf_chronicle.proofs.Cuts.{cut_was, no_byte}

@@ -10,12 +10,14 @@ use Rattle.smf_state.specs.Fields.{next_field}
 use Rattle.smf_state.specs.States.{read_state, state_text}
 use Rattle.smf_state.proofs.Lines.{behind, bind_ok, takes, took}
 use Rattle.smf_state.proofs.Words.{name, number, state}
-use Rattle.smf_audit.specs.declared.entry.Entry.{Entry}
-use Rattle.smf_audit.specs.declared.entry.Entry.TheVariants.{Happened, Life, Row, Living}
+use Rattle.smf_chronicle.specs.declared.entry.Entry.{Entry}
+use Rattle.smf_chronicle.specs.declared.entry.Entry.TheVariants.{Happened, Life, Row, Living}
 use Rattle.smf_world.specs.declared.item.Item.TheVariants.{Boot, Committed, Held, Spawned, Emptied}
 use Rattle.smf_chronicle.specs.Reading.{command_at, command_in, end_at, entry_behind, read_entry}
 use Rattle.smf_chronicle.specs.Texts.{IsEntry, entry_parts, entry_text, spaced}
-use Rattle.smf_chronicle.specs.Words.{entry_word, method_text, next_text, read_method, read_next, read_word, word_text}
+use Rattle.smf_chronicle.specs.Words.{entry_word, read_method, read_next, read_word, word_text}
+use Rattle.smf_method.specs.Tokens.{method_text}
+use Rattle.smf_world.specs.TrailText.{next_text}
 use Rattle.smf_chronicle.specs.declared.word.Word.{Word}
 use Rattle.smf_chronicle.specs.declared.word.Word.TheVariants as words
 use Rattle.smf_chronicle.proofs.WordFields.{method, next, word}

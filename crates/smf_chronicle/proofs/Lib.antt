@@ -4,3 +4,12 @@ pub mod Ends
 pub mod Entries
 pub mod ManyLines
 pub mod WordFields
+pub mod Lasting
+pub mod Found
+pub mod Decided
+pub mod Demanded
+pub mod FoundTold
+pub mod Noted
+pub mod Agreed
+pub mod Passed
+pub mod ItemTexts

@@ -5,7 +5,7 @@ use Rattle.std.specs.List.{AllByRecursion}
 use Rattle.std.specs.Prelude.{nat_eq}
 use Rattle.std.proofs.lemmas.List.{map-append}
 use Rattle.smf_fmri.proofs.Patterns.{same_text}
-use Rattle.smf_audit.specs.declared.entry.Entry.{Entry}
+use Rattle.smf_chronicle.specs.declared.entry.Entry.{Entry}
 use Rattle.smf_chronicle.specs.Lines.{AreRead, GivesFault, IsLink, IsReadTo, IsStamped, IsUnlinked, Stamped, behind_clock, behind_link, cut_at, entries_of, entry_or, fault_at, first_behind, first_line, is_clock, last_link, line_text, lines_text, link_behind, no_end, read_line, with_rest}
 use Rattle.smf_chronicle.specs.Reading.{read_entry}
 use Rattle.smf_chronicle.specs.Texts.{entry_text}

@@ -11,7 +11,9 @@ use Rattle.smf_state.specs.declared.state.State.TheVariants as states
 use Rattle.smf_state.specs.States.{read_state, state_text}
 use Rattle.smf_state.proofs.Lines.{IsSpelling}
 use Rattle.smf_state.proofs.Words.{Any, state}
-use Rattle.smf_chronicle.specs.Words.{method_text, next_text, read_method, read_next, read_word, word_text}
+use Rattle.smf_chronicle.specs.Words.{read_method, read_next, read_word, word_text}
+use Rattle.smf_method.specs.Tokens.{method_text}
+use Rattle.smf_world.specs.TrailText.{next_text}
 use Rattle.smf_chronicle.specs.declared.word.Word.{Word}
 use Rattle.smf_chronicle.specs.declared.word.Word.TheVariants as words
 

@@ -2,3 +2,8 @@ pub mod Lines
 pub mod Reading
 pub mod Texts
 pub mod Words
+pub mod Breaches
+pub mod Lives
+pub mod Tables
+pub mod Audit
+pub mod RuleTexts

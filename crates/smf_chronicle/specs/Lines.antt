@@ -6,7 +6,7 @@ use Rattle.std.specs.Fmt.{decimal}
 use Rattle.std.specs.List.{AllByRecursion, list_all}
 use Rattle.hex.specs.Hex.{encode_lower}
 use Rattle.sha2.specs.Sha256.{sha256}
-use Rattle.smf_audit.specs.declared.entry.Entry.{Entry}
+use Rattle.smf_chronicle.specs.declared.entry.Entry.{Entry}
 use Rattle.smf_fmri.specs.Counts.{is_decimal, no_space}
 use Rattle.smf_chronicle.specs.Reading.{read_entry}
 use Rattle.smf_chronicle.specs.Texts.{IsEntry, entry_text}

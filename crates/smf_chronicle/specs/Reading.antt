@@ -1,7 +1,7 @@
 -- How the text of an entry is read: each field in turn, or the length of the rest from a wrong field on.
 use Rattle.std.specs.Prelude.{◌≡◌, ℕ, List, length, Option, Some, None, Result, Ok, Err}
-use Rattle.smf_audit.specs.declared.entry.Entry.{Entry}
-use Rattle.smf_audit.specs.declared.entry.Entry.TheVariants.{Happened, Life, Row, Living}
+use Rattle.smf_chronicle.specs.declared.entry.Entry.{Entry}
+use Rattle.smf_chronicle.specs.declared.entry.Entry.TheVariants.{Happened, Life, Row, Living}
 use Rattle.smf_chronicle.specs.Words.{read_method, read_next, read_word}
 use Rattle.smf_chronicle.specs.declared.word.Word.{Word}
 use Rattle.smf_chronicle.specs.declared.word.Word.TheVariants as words

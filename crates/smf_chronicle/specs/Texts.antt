@@ -1,9 +1,11 @@
 -- The text of an entry, as the trail of a script has it for an item.
 use Rattle.std.specs.Prelude.{◌<◌, ◌^◌, ℕ, List, [], ◌∷◌, ◌++◌}
 use Rattle.std.specs.Fmt.{decimal}
-use Rattle.smf_audit.specs.declared.entry.Entry.{Entry}
-use Rattle.smf_audit.specs.declared.entry.Entry.TheVariants.{Happened, Life, Row, Living}
-use Rattle.smf_chronicle.specs.Words.{entry_word, method_text, next_text, word_text}
+use Rattle.smf_chronicle.specs.declared.entry.Entry.{Entry}
+use Rattle.smf_chronicle.specs.declared.entry.Entry.TheVariants.{Happened, Life, Row, Living}
+use Rattle.smf_chronicle.specs.Words.{entry_word, word_text}
+use Rattle.smf_method.specs.Tokens.{method_text}
+use Rattle.smf_world.specs.TrailText.{next_text}
 use Rattle.smf_fmri.specs.Patterns.{IsInstanceName}
 use Rattle.smf_method.specs.Commands.{IsCommand}
 use Rattle.smf_state.specs.States.{state_text}

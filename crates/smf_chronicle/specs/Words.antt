@@ -1,14 +1,14 @@
 -- The words of entries.
 use Rattle.std.specs.Prelude.{ℕ, List, nat_eq, codes, if◌then◌else◌, Option, Some, None, option_map}
 use Rattle.std.specs.Cmp.Lexicographic.{pointwise}
-use Rattle.smf_audit.specs.declared.entry.Entry.{Entry}
-use Rattle.smf_audit.specs.declared.entry.Entry.TheVariants as entries
+use Rattle.smf_chronicle.specs.declared.entry.Entry.{Entry}
+use Rattle.smf_chronicle.specs.declared.entry.Entry.TheVariants as entries
 use Rattle.smf_chronicle.specs.declared.word.Word.{Word}
 use Rattle.smf_chronicle.specs.declared.word.Word.TheVariants as words
 use Rattle.smf_contract.specs.declared.cookie.Method.{Method}
 use Rattle.smf_contract.specs.declared.cookie.Method.TheVariants.{Start, Stop, Refresh}
 use Rattle.smf_state.specs.declared.state.State.{State}
-use Rattle.smf_state.specs.States.{read_state, state_text}
+use Rattle.smf_state.specs.States.{read_state}
 use Rattle.smf_world.specs.declared.item.Item.{Item}
 use Rattle.smf_world.specs.declared.item.Item.TheVariants as items
 
@@ -51,19 +51,10 @@ read_word text =
 
 -- ---- the state to which a transition leads
 
-abbrev pub next_text : Option State → List ℕ
-next_text None = codes "none"
-next_text (Some state) = state_text state
-
 abbrev pub read_next : List ℕ → Option (Option State)
 read_next text = if pointwise nat_eq text (codes "none") then Some None else option_map Some (read_state text)
 
 -- ---- methods
-
-abbrev pub method_text : Method → List ℕ
-method_text Start = codes "start"
-method_text Stop = codes "stop"
-method_text Refresh = codes "refresh"
 
 abbrev pub read_method : List ℕ → Option Method
 read_method text =

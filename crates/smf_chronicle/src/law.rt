@@ -2,7 +2,7 @@
 
 ghost use Rattle.std.specs.Prelude.{◌≡◌, ◌<◌, ◌^◌, ℕ, List, Ok, true};
 ghost use Rattle.smf_chronicle.specs.Lines.{clock_text, is_clock};
-ghost use Rattle.smf_audit.specs.declared.entry.Entry.{Entry as AnyEntry};
+ghost use Rattle.smf_chronicle.specs.declared.entry.Entry.{Entry as AnyEntry};
 ghost use Rattle.smf_chronicle.specs.Reading.{read_entry};
 ghost use Rattle.smf_chronicle.specs.Texts.{IsEntry, entry_text};
 

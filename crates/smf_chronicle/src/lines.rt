@@ -8,11 +8,11 @@ ghost use Rattle.smf_chronicle.specs.Lines.{AreRead, GivesFirst, GivesLine, IsLi
 ghost use Rattle.smf_chronicle.specs.declared.fault.ReadFault.TheVariants.{Unlinked};
 ghost use Rattle.smf_chronicle.specs.Reading.{read_entry};
 
+use crate::entry::Entry;
 use crate::fault::{LineFault, ReadFault};
 use crate::reading::read_entry;
 use hex::encode;
 use sha2::{Digest, Sha256};
-use smf_audit::Entry;
 use smf_fmri::is_decimal;
 use smf_state::FieldFault;
 use std::alloc::{AllocError, Global};

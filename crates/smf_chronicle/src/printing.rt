@@ -1,87 +1,18 @@
 ghost use Rattle.std.specs.Prelude.{◌≡◌, ◌++◌, IfOk, OnOk, Some, string_bytes};
 ghost use Rattle.smf_chronicle.specs.Lines.{clock_text, line_text};
-ghost use Rattle.smf_audit.specs.declared.entry.Entry.TheVariants.{Happened};
-ghost use Rattle.smf_world.specs.declared.item.Item.TheVariants.{Held, Spawned};
+ghost use Rattle.smf_chronicle.specs.declared.entry.Entry.TheVariants.{Happened};
 ghost use Rattle.smf_chronicle.specs.Texts.{entry_text};
 
-use crate::word::next_text;
-use smf_audit::Entry;
-use smf_contract::Method;
-use smf_fmri::InstanceFmri;
-use smf_method::{CommandText, method_text};
-use smf_state::State;
-use smf_world::Item;
+use crate::entry::Entry;
+use smf_world::{Item, put_item};
 use std::alloc::{AllocError, Global};
 use std::fmt::Write;
 
-fn put_held(
-    out: &mut String,
-    name: &InstanceFmri,
-    launch: u64,
-    instance: u64,
-    number: u64,
-    state: State,
-) -> Result<(), AllocError>
-    ensures { OnOk result (string_bytes out.new
-        ≡ string_bytes out.old ++ entry_text (Happened (Held name.now launch instance number state))) }
-{
-    let name = name.print();
-    let state = state.text();
-    write!(out, "held {name} {launch} {instance}")?;
-    write!(out, " {number} {state}")
-}
-
-fn put_spawned(
-    out: &mut String,
-    contract: u64,
-    instance: u64,
-    run: u64,
-    method: Method,
-    revision: u64,
-    command: &CommandText,
-) -> Result<(), AllocError>
-    ensures { OnOk result (string_bytes out.new ≡ string_bytes out.old
-        ++ entry_text (Happened (Spawned contract instance run method revision command.now))) }
-{
-    let method = method_text(method);
-    let command = command.as_str();
-    write!(out, "spawned {contract} {instance} {run}")?;
-    write!(out, " {method} {revision} ")?;
-    write!(out, "{command}")
-}
-
-fn put_item(out: &mut String, item: &Item) -> Result<(), AllocError>
+/// Puts the text of an item, without the end of its line.
+fn put_happened(out: &mut String, item: &Item) -> Result<(), AllocError>
     ensures { OnOk result (string_bytes out.new ≡ string_bytes out.old ++ entry_text (Happened item.now)) }
 {
-    match item {
-        Item::Boot => out.push_str("boot"),
-        Item::Emptied(contract) => write!(out, "emptied {contract}"),
-        Item::Committed {
-            instance,
-            number,
-            state,
-            next,
-        } => {
-            let state = state.text();
-            let next = next_text(*next);
-            write!(out, "committed {instance} {number} {state} {next}")
-        }
-        Item::Held {
-            name,
-            launch,
-            instance,
-            number,
-            state,
-        } => put_held(out, name, *launch, *instance, *number, *state),
-        Item::Spawned {
-            contract,
-            instance,
-            run,
-            method,
-            revision,
-            command,
-        } => put_spawned(out, *contract, *instance, *run, *method, *revision, command),
-    }
+    put_item(out, item)
 }
 
 /// Puts the text of an entry, without the end of its line.
@@ -89,7 +20,7 @@ fn put_entry(out: &mut String, entry: &Entry) -> Result<(), AllocError>
     ensures { OnOk result (string_bytes out.new ≡ string_bytes out.old ++ entry_text entry.now) }
 {
     match entry {
-        Entry::Happened(item) => put_item(out, item),
+        Entry::Happened(item) => put_happened(out, item),
         Entry::Life => out.push_str("life"),
         Entry::Row {
             instance,
@@ -131,7 +62,7 @@ pub fn item_line(
     line.push(' ')?;
     put_clock(&mut line, milliseconds)?;
     line.push(' ')?;
-    put_item(&mut line, item)?;
+    put_happened(&mut line, item)?;
     Ok(line)
 }
 

@@ -6,8 +6,8 @@ ghost use Rattle.smf_chronicle.specs.Words.{read_method, read_next, read_word};
 ghost use Rattle.smf_chronicle.specs.declared.word.Word.TheVariants as words;
 ghost use Rattle.smf_state.specs.Fields.{IsRead, left_of, next_field, text_of_borrow};
 
+use crate::entry::Entry;
 use crate::word::{Word, read_method, read_next};
-use smf_audit::Entry;
 use smf_contract::Method;
 use smf_method::CommandText;
 use smf_state::{FieldFault, State, WrongField, field_at, left_of, name_at, number_at, state_at};

@@ -1,5 +1,5 @@
 ghost use Rattle.std.specs.Prelude.{◌≡◌, Some, None};
-ghost use Rattle.smf_chronicle.specs.Words.{read_method, read_next, read_word, next_text, word_text};
+ghost use Rattle.smf_chronicle.specs.Words.{read_method, read_next, read_word};
 
 use smf_contract::Method;
 use smf_state::State;
@@ -40,16 +40,6 @@ impl Word {
         } else {
             None
         }
-    }
-}
-
-/// The state to which a transition leads, or `none`.
-pub(crate) fn next_text(next: Option<State>) -> &'static str
-    ensures { result.now ≡ next_text next }
-{
-    match next {
-        None => "none",
-        Some(state) => state.text(),
     }
 }
 

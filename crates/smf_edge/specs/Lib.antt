@@ -11,3 +11,8 @@ pub mod Starts
 pub mod Processes
 pub mod Manned
 pub mod Beginnings
+pub mod FollowedFacts
+pub mod Sights
+pub mod Phases
+pub mod Followed
+pub mod FollowedBeginnings

@@ -7,8 +7,8 @@ use Rattle.smf_model.specs.declared.held.Instance.{Instance}
 use Rattle.smf_model.specs.Contents.{Holdings}
 use Rattle.smf_model.specs.GeneralGroup.{service_fmri}
 use Rattle.smf_model.specs.Look.{empty}
-use Rattle.smf_cfg.specs.Runs.{Ends, HasRun, lines_on, run, start_place, status_of}
-use Rattle.smf_cfg.proofs.Progress.{ends_of_all}
+use Rattle.smf_script.specs.CfgRuns.{Ends, HasRun, lines_on, run, start_place, status_of}
+use Rattle.smf_script.proofs.CfgProgress.{ends_of_all}
 use Rattle.smf_export.specs.declared.comparison.Extent.{Extent}
 use Rattle.smf_export.specs.declared.comparison.Extent.TheVariants.{Persistent, Every}
 use Rattle.smf_export.specs.Configured.{AreSame, HoldSame, Services, groups_of_instance, groups_of_service, others}

@@ -6,7 +6,7 @@ use Rattle.smf_model.specs.declared.held.Instance.{Instance}
 use Rattle.smf_model.specs.declared.held.InstanceName.{InstanceName}
 use Rattle.smf_model.specs.Contents.{Holdings}
 use Rattle.smf_model.specs.Look.{empty, instance_by_name, service}
-use Rattle.smf_cfg.specs.Runs.{Effect, run, start_place}
+use Rattle.smf_script.specs.CfgRuns.{Effect, run, start_place}
 use Rattle.smf_export.specs.declared.difference.Undo.{Undo}
 use Rattle.smf_export.specs.declared.comparison.Extent.TheVariants.{Persistent, Every}
 use Rattle.smf_export.specs.Configured.{HoldSame, Services, others}

@@ -5,10 +5,10 @@ ghost use Rattle.smf_model.specs.Laws.{IsNumbered};
 ghost use Rattle.smf_export.specs.Turns.{IsAsked, IsNotAsked, IsRun};
 
 use crate::fault::ExportFault;
-use smf_cfg::{RunFault, run_cfg, serve_cfg, tell};
 use smf_fmri::Text;
-use smf_lines::{LineReader, ReadFault, TextWriter};
+use smf_lines::{LineReader, ReadFault, TextWriter, tell};
 use smf_model::{NoJournal, Plain, Tables};
+use smf_script::{RunFault, run_cfg, serve_cfg};
 use std::alloc::{AllocError, Global};
 use std::str;
 

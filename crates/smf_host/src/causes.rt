@@ -1,7 +1,7 @@
 // Why instances are in maintenance, as a file in the folder of contracts has it.
 use crate::boots::note_boot;
-use crate::contracts::write_whole;
 use crate::retries::RetryFile;
+use crate::room_file::RoomFile;
 use crate::why_file::WhyFile;
 use smf_fmri::{InstanceFmri, Items};
 use smf_model::Journal;
@@ -15,6 +15,9 @@ use std::alloc::{AllocError, Global};
 use std::rt::HostRuntime;
 use std::{fs, io};
 
+/// Its name.
+const CAUSES: &str = "causes";
+
 /// A file in the folder of contracts, by which `svcs -x` knows why instances are in maintenance. It has the files beside it
 /// written that tell of retries, and of starts and stops.
 #[derive(Drop)]
@@ -24,8 +27,7 @@ pub struct CauseFile<'a> {
     room: &'a str,
     /// The lines of an older life of the server, one for each instance that they name.
     older: String,
-    /// The text that was written last. None was written for what an older server left.
-    text: Option<String>,
+    file: RoomFile<'a>,
     /// Whether it is still to be noted that the system has booted.
     boots: bool,
     causes: Causes,
@@ -147,7 +149,7 @@ impl<'a> CauseFile<'a> {
             rt,
             room,
             older,
-            text: None,
+            file: RoomFile::new(rt, room, CAUSES),
             boots,
             causes: Causes::new(rt.alloc()),
             retries: RetryFile::new(rt, room),
@@ -155,29 +157,12 @@ impl<'a> CauseFile<'a> {
         }
     }
 
-    fn is_written(&self, text: &str) -> bool {
-        match &self.text {
-            None => false,
-            Some(written) => written.as_str() == text,
-        }
-    }
-
-    fn write(&mut self, text: String) -> io::Result<()> {
-        if self.is_written(text.as_str()) {
-            return Ok(());
-        }
-        let path = path_in(self.rt, self.room)?;
-        write_whole(self.rt, path.as_str(), text.as_str())?;
-        self.text = Some(text);
-        Ok(())
-    }
-
     /// A line for each instance that is in maintenance, and those of an older life.
     fn lines<J: Journal>(&self, sight: &mut Sight<'_, J>) -> Result<String, AllocError> {
         let alloc = self.rt.alloc();
         let mut text = String::new(alloc);
         for known in self.causes.known() {
-            put_line(&mut text, alloc, known, &self.text, sight)?;
+            put_line(&mut text, alloc, known, self.file.text(), sight)?;
         }
         text.push_str(self.older.as_str())?;
         Ok(text)
@@ -190,7 +175,7 @@ impl<'a> CauseFile<'a> {
         }
         self.causes.add(self.rt.alloc(), items)?;
         let text = self.lines(sight)?;
-        self.write(text)
+        self.file.write(text)
     }
 
     /// Notes that the system has booted, when the first is told: what is held then has booted.
@@ -217,7 +202,7 @@ impl<'a> CauseFile<'a> {
 }
 
 fn path_in(rt: &HostRuntime, room: &str) -> io::Result<String> {
-    Ok(format!(in rt.alloc(); "{room}/causes")?)
+    Ok(format!(in rt.alloc(); "{room}/{CAUSES}")?)
 }
 
 /// The first word of a line: the number of its instance.

@@ -1,6 +1,6 @@
 // The list of children beside a database.
 use crate::lock::{path_beside, process_number};
-use smf_cfg::tell;
+use smf_lines::tell;
 use smf_program::tell_no_memory;
 use smf_sweep::{ListPlace, Lister, SweepFault};
 use std::io;

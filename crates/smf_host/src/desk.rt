@@ -2,7 +2,7 @@
 use crate::pace::Pace;
 use crate::pipe::{Call, Pipe};
 use crate::stop::OrderedStop;
-use smf_cfg::tell;
+use smf_lines::tell;
 use smf_model::{Journal, Plain};
 use smf_watch::{Desk, ServerInput};
 use std::fs::File;

@@ -1,8 +1,7 @@
 // How contracts are ended and logs are renamed, as a file in their folder has it.
-use crate::contracts::write_whole;
+use crate::room_file::RoomFile;
 use smf_watch::{Ender, LogLimit, Stop, Term, UntimedMethods};
 use std::alloc::{AllocError, Global};
-use std::io;
 use std::rt::HostRuntime;
 
 /// A file in the folder of contracts, by which `smf_hold` knows how they are ended, when logs are renamed, and which methods
@@ -10,10 +9,7 @@ use std::rt::HostRuntime;
 #[derive(Drop)]
 pub struct FileEnder<'a> {
     rt: &'a HostRuntime,
-    /// The path of the file.
-    path: String,
-    /// The text that was written last. None was written for what an older server left.
-    text: Option<String>,
+    file: RoomFile<'a>,
 }
 
 /// The instance, the signal, and the seconds, which are 0 if there is no time-out. A last word says that the first process
@@ -80,29 +76,6 @@ fn lines_of(alloc: Global, terms: &[Term]) -> Result<String, AllocError> {
     Ok(text)
 }
 
-impl<'a> FileEnder<'a> {
-    fn new(rt: &'a HostRuntime, path: String) -> FileEnder<'a> {
-        FileEnder {
-            rt,
-            path,
-            text: None,
-        }
-    }
-
-    fn write(&mut self, text: String) -> io::Result<()> {
-        write_whole(self.rt, self.path.as_str(), text.as_str())?;
-        self.text = Some(text);
-        Ok(())
-    }
-
-    fn is_written(&self, text: &str) -> bool {
-        match &self.text {
-            None => false,
-            Some(written) => written.as_str() == text,
-        }
-    }
-}
-
 impl<'a> Ender for FileEnder<'a> {
     ghost use Rattle.std.specs.Prelude.{None};
 
@@ -110,17 +83,16 @@ impl<'a> Ender for FileEnder<'a> {
 
     /// Writes the terms, unless they are the same as before. If they cannot be written, contracts are kept as before.
     fn keep_by(&mut self, terms: &[Term]) {
-        match lines_of(self.rt.alloc(), terms) {
-            Ok(text) if !self.is_written(text.as_str()) => {
-                let _written = self.write(text);
-            }
-            _ => {}
+        if let Ok(text) = lines_of(self.rt.alloc(), terms) {
+            let _written = self.file.write(text);
         }
     }
 }
 
 /// The file in the folder of contracts, of which nothing is written yet.
-pub fn ender_in<'a>(rt: &'a HostRuntime, room: &str) -> io::Result<FileEnder<'a>> {
-    let path = format!(in rt.alloc(); "{room}/terms")?;
-    Ok(FileEnder::new(rt, path))
+pub fn ender_in<'a>(rt: &'a HostRuntime, room: &'a str) -> FileEnder<'a> {
+    FileEnder {
+        rt,
+        file: RoomFile::new(rt, room, "terms"),
+    }
 }

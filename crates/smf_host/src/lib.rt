@@ -5,7 +5,7 @@
 //! (when it ticks), `stop` (how all services stop), `ender` (how contracts are ended), `boots` (whether it boots or goes on),
 //! `timer` (the clock), `record` (what was given to it), and `chronicles` (what it keeps of what happened): `causes` (why instances are in maintenance),
 //! `retries` (which are tried again), `why_file` (on what evidence instances were started and stopped: `why`, in `blocks`, with the `chain` of causes), `trail` (what all servers
-//! of a database told).
+//! of a database told). `room_file` is a file of these that is written whole.
 #![tactic(auto)]
 
 mod blocks;
@@ -25,6 +25,7 @@ mod pace;
 mod pipe;
 mod record;
 mod retries;
+mod room_file;
 mod stop;
 mod timer;
 mod trail;
@@ -48,5 +49,5 @@ pub use record::{
 };
 pub use retries::{older_retries, stage_in, stage_text};
 pub use timer::SystemTimer;
-pub use trail::TrailFile;
+pub use trail::{TrailFile, milliseconds};
 pub use why::Provenance;

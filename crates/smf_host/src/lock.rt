@@ -1,6 +1,6 @@
 // The lock beside a database, by which one program alone has it.
 use crate::database::is_memory;
-use smf_cfg::tell;
+use smf_lines::tell;
 use std::fs::File;
 use std::io::Write;
 use std::os::unix::fs::OpenOptionsExt;

@@ -1,19 +1,19 @@
 // The instances that are tried again, as a file in the folder of contracts has them.
-use crate::contracts::write_whole;
+use crate::room_file::RoomFile;
 use smf_watch::{Plan, Retry, RetryStage};
 use std::alloc::{AllocError, Global};
 use std::rt::HostRuntime;
 use std::time::Duration;
 use std::{fs, io};
 
+/// Its name.
+const RETRIES: &str = "retries";
+
 /// A file in the folder of contracts, by which the next server goes on with retries, and `svcs -x` tells them.
 #[derive(Drop)]
 pub struct RetryFile<'a> {
     rt: &'a HostRuntime,
-    /// The path of the folder.
-    room: &'a str,
-    /// The text that was written last.
-    text: Option<String>,
+    file: RoomFile<'a>,
 }
 
 /// The word of a stage.
@@ -85,33 +85,18 @@ impl<'a> RetryFile<'a> {
     pub(crate) fn new(rt: &'a HostRuntime, room: &'a str) -> RetryFile<'a> {
         RetryFile {
             rt,
-            room,
-            text: None,
-        }
-    }
-
-    fn is_written(&self, text: &str) -> bool {
-        match &self.text {
-            None => false,
-            Some(written) => written.as_str() == text,
+            file: RoomFile::new(rt, room, RETRIES),
         }
     }
 
     /// Writes the instances that are tried again, unless they are the same as before.
     pub(crate) fn write(&mut self, plans: &[Plan]) -> io::Result<()> {
-        let text = lines_of(self.rt.alloc(), plans)?;
-        if self.is_written(text.as_str()) {
-            return Ok(());
-        }
-        let path = path_in(self.rt, self.room)?;
-        write_whole(self.rt, path.as_str(), text.as_str())?;
-        self.text = Some(text);
-        Ok(())
+        self.file.write(lines_of(self.rt.alloc(), plans)?)
     }
 }
 
 fn path_in(rt: &HostRuntime, room: &str) -> io::Result<String> {
-    Ok(format!(in rt.alloc(); "{room}/retries")?)
+    Ok(format!(in rt.alloc(); "{room}/{RETRIES}")?)
 }
 
 /// The instances that an older server was to try again. A line that is not whole tells nothing.

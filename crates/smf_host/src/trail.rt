@@ -1,6 +1,5 @@
 // What all servers of a database told, in a file beside it.
-use smf_audit::Entry;
-use smf_chronicle::{entry_line, item_line, link_to};
+use smf_chronicle::{Entry, entry_line, item_line, link_to};
 use smf_contract::{Contract, Cookie, Method};
 use smf_model::Journal;
 use smf_node::Node;
@@ -113,7 +112,7 @@ impl Lines {
 }
 
 /// The milliseconds since 1970.
-pub(crate) fn milliseconds(rt: &HostRuntime) -> io::Result<u64> {
+pub fn milliseconds(rt: &HostRuntime) -> io::Result<u64> {
     match SystemTime::now(rt)?.duration_since(UNIX_EPOCH) {
         Ok(since) => Ok(
             since

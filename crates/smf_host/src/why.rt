@@ -1,7 +1,7 @@
 // On what evidence instances were started and stopped last.
 use crate::blocks::{Block, Kind, STARTED, blocks_in, put_part, text_of};
 use crate::chain::{STOPPED, Told};
-use smf_dep::{Grouping, RestartOn};
+use smf_dep::RestartOn;
 use smf_fmri::InstanceFmri;
 use smf_model::{InstanceEntry, Journal, Plain};
 use smf_node::Node;
@@ -9,6 +9,7 @@ use smf_provenance::{
     Ask, Cited, EnabledBy, EventKind, GroupEvidence, GroupStop, Scene, StartEvidence, StopEvent,
     StopEvidence, StopReason, enabled_by, start_evidence, stop_evidence,
 };
+use smf_reasons::grouping_text;
 use smf_state::View;
 use smf_value::Group;
 use smf_wire::{Message, Order, ViewChanges, What};
@@ -31,15 +32,6 @@ pub struct Provenance {
 }
 
 // ---- the lines of a start
-
-fn grouping_text(grouping: Grouping) -> &'static str {
-    match grouping {
-        Grouping::RequireAll => "require_all",
-        Grouping::RequireAny => "require_any",
-        Grouping::OptionalAll => "optional_all",
-        Grouping::ExcludeAll => "exclude_all",
-    }
-}
 
 fn restart_text(restart_on: RestartOn) -> &'static str {
     match restart_on {

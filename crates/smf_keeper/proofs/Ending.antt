@@ -1,8 +1,8 @@
 -- What was asked of a contract that is to end.
 use Rattle.std.proofs.Common.{◌≡◌, ◌⊎◌, inl, inr, ℕ, suc, ◌+◌, ◌<◌, List, Bool, true, false, Option, None, sym, subst, add-one}
-use Rattle.smf_follow.specs.declared.stand.FirstEnd.{FirstEnd}
-use Rattle.smf_follow.specs.declared.stand.Stand.{Stand}
-use Rattle.smf_follow.specs.declared.stand.Stand.TheVariants.{Gone}
+use Rattle.smf_edge.specs.declared.stand.FirstEnd.{FirstEnd}
+use Rattle.smf_edge.specs.declared.stand.Stand.{Stand}
+use Rattle.smf_edge.specs.declared.stand.Stand.TheVariants.{Gone}
 use Rattle.smf_room.specs.Looks.{IsCancel}
 use Rattle.smf_room.specs.Tellings.{Fails, Heard, Log, Tells}
 use Rattle.smf_room.proofs.Hearing.{both, weaker}

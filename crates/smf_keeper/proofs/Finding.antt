@@ -4,8 +4,8 @@ use Rattle.std.proofs.lemmas.List.{map-append, take_more}
 use Rattle.smf_contract.specs.declared.found.Found.{Found as FoundContract}
 use Rattle.smf_contract.specs.Laws.{Ascends}
 use Rattle.smf_contract.proofs.Ordered.{ascends_more}
-use Rattle.smf_follow.specs.Beginnings.{found_post, found_posts}
-use Rattle.smf_follow.specs.Phases.{Post}
+use Rattle.smf_edge.specs.FollowedBeginnings.{found_post, found_posts}
+use Rattle.smf_edge.specs.Phases.{Post}
 use Rattle.smf_room.specs.declared.life.Found.{Found}
 use Rattle.smf_room.specs.Tellings.{Log, Tells}
 use Rattle.smf_keeper.specs.Founds.{HaveGone}

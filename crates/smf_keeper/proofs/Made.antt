@@ -1,6 +1,6 @@
 -- How many contracts were made by calls.
 use Rattle.std.proofs.Common.{◌≡◌, ◌⊎◌, inl, inr, ℕ, ◌+◌, Bool, true, false, List, [], ◌∷◌, ◌++◌, Option, Some, None, option_map, Result, Ok, Err, IfOk, OnErr, refl, sym, ◌∙◌, ap, subst, arith, append_assoc, string_bytes}
-use Rattle.smf_follow.specs.Facts.{one_more_made}
+use Rattle.smf_edge.specs.FollowedFacts.{one_more_made}
 use Rattle.smf_room.specs.declared.live_room.LiveRoom.{LiveRoom}
 use Rattle.smf_room.specs.declared.note.Note.{Note}
 use Rattle.smf_room.specs.declared.start.Numbers.{Numbers}

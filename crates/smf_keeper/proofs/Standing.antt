@@ -1,8 +1,8 @@
 -- What was asked of a contract by what was seen of it.
 use Rattle.std.proofs.Common.{◌≡◌, inl, inr, ℕ, List, [], Bool, Option, Some, None, Result, Ok, Err, IfOk, OnErr, refl, sym, subst}
-use Rattle.smf_follow.specs.declared.stand.FirstEnd.{FirstEnd}
-use Rattle.smf_follow.specs.declared.stand.Stand.{Stand}
-use Rattle.smf_follow.specs.declared.stand.Stand.TheVariants.{Gone}
+use Rattle.smf_edge.specs.declared.stand.FirstEnd.{FirstEnd}
+use Rattle.smf_edge.specs.declared.stand.Stand.{Stand}
+use Rattle.smf_edge.specs.declared.stand.Stand.TheVariants.{Gone}
 use Rattle.smf_room.specs.declared.life.Stand.{Stand as Settled}
 use Rattle.smf_room.specs.declared.life.Stand.TheVariants as settleds
 use Rattle.smf_room.specs.declared.look.Look.{Look}

@@ -1,9 +1,9 @@
 -- What is asked of a contract that is looked at, or that is to end, and what is kept of it: how it ended, and whether
 -- its end was asked for.
 use Rattle.std.specs.Prelude.{◌≡◌, ◌⊎◌, ◌<◌, ◌+◌, ℕ, suc, List, [], ◌++◌, Bool, true, false, Option, Some, None, codes}
-use Rattle.smf_follow.specs.declared.stand.FirstEnd.{FirstEnd}
-use Rattle.smf_follow.specs.declared.stand.Stand.{Stand}
-use Rattle.smf_follow.specs.declared.stand.Stand.TheVariants.{Gone}
+use Rattle.smf_edge.specs.declared.stand.FirstEnd.{FirstEnd}
+use Rattle.smf_edge.specs.declared.stand.Stand.{Stand}
+use Rattle.smf_edge.specs.declared.stand.Stand.TheVariants.{Gone}
 use Rattle.smf_room.specs.declared.look.Look.{Look}
 use Rattle.smf_room.specs.declared.look.Look.TheVariants.{Unclean}
 use Rattle.smf_room.specs.Looks.{IsAnyCancel, IsAnyLook, IsCancel, IsLook}

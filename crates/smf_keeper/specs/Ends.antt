@@ -1,7 +1,7 @@
 -- How the first process of a contract ended.
 use Rattle.std.specs.Prelude.{ℕ, ◌/◌, ◌%◌, ◌==◌, if◌then◌else◌, Option, Some, None}
-use Rattle.smf_follow.specs.declared.stand.FirstEnd.{FirstEnd}
-use Rattle.smf_follow.specs.declared.stand.FirstEnd.TheVariants.{Code, Signal, Core}
+use Rattle.smf_edge.specs.declared.stand.FirstEnd.{FirstEnd}
+use Rattle.smf_edge.specs.declared.stand.FirstEnd.TheVariants.{Code, Signal, Core}
 
 -- by its status as wait gives it: the signal in the last seven bits, whether a core was left in the one above, and then
 -- the code

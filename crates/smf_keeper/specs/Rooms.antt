@@ -4,9 +4,9 @@ use Rattle.std.specs.IoError.{error_kind}
 use Rattle.std_io.specs.declared.io.error.Error.{Error}
 use Rattle.std_io.specs.declared.io.kind.ErrorKind.TheVariants.{OutOfMemory}
 use Rattle.smf_edge.specs.declared.start.Start.{Start}
-use Rattle.smf_follow.specs.declared.stand.FirstEnd.{FirstEnd}
-use Rattle.smf_follow.specs.declared.stand.Stand.{Stand}
-use Rattle.smf_follow.specs.declared.stand.Stand.TheVariants.{Gone}
+use Rattle.smf_edge.specs.declared.stand.FirstEnd.{FirstEnd}
+use Rattle.smf_edge.specs.declared.stand.Stand.{Stand}
+use Rattle.smf_edge.specs.declared.stand.Stand.TheVariants.{Gone}
 use Rattle.smf_room.specs.declared.live_room.LiveRoom.{LiveRoom}
 use Rattle.smf_room.specs.declared.note.Note.{Note}
 use Rattle.smf_room.specs.LiveRooms.{IsBegun, IsRefused, IsStartLost}

@@ -1,9 +1,9 @@
 -- How a contract of a room stands, by what was seen of it.
 use Rattle.std.specs.Prelude.{◌≡◌, ◌⊎◌, ℕ, List, [], Bool, Option, Some, None}
-use Rattle.smf_follow.specs.declared.stand.FirstEnd.{FirstEnd}
-use Rattle.smf_follow.specs.declared.stand.FirstEnd.TheVariants.{Signal}
-use Rattle.smf_follow.specs.declared.stand.Stand.{Stand}
-use Rattle.smf_follow.specs.declared.stand.Stand.TheVariants.{Runs, Left, Gone}
+use Rattle.smf_edge.specs.declared.stand.FirstEnd.{FirstEnd}
+use Rattle.smf_edge.specs.declared.stand.FirstEnd.TheVariants.{Signal}
+use Rattle.smf_edge.specs.declared.stand.Stand.{Stand}
+use Rattle.smf_edge.specs.declared.stand.Stand.TheVariants.{Runs, Left, Gone}
 use Rattle.smf_room.specs.declared.life.Stand.{Stand as Settled}
 use Rattle.smf_room.specs.declared.life.Stand.TheVariants as settleds
 use Rattle.smf_room.specs.declared.look.Look.{Look}

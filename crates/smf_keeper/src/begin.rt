@@ -1,7 +1,7 @@
 // The beginning of a life in a room: contracts of an older life are found, or ended.
 ghost use Rattle.smf_contract.specs.Laws.{Ascends};
-ghost use Rattle.smf_follow.specs.Beginnings.{found_post, found_posts};
-ghost use Rattle.smf_follow.specs.Phases.{posts};
+ghost use Rattle.smf_edge.specs.FollowedBeginnings.{found_post, found_posts};
+ghost use Rattle.smf_edge.specs.Phases.{posts};
 ghost use Rattle.smf_keeper.specs.Founds.{HasFound, HaveGone, IsBooted};
 ghost use Rattle.smf_room.specs.LiveRooms.{BeginsWell, EndsWell, GoesOn};
 ghost use Rattle.std.specs.Prelude.{◌≡◌, ◌≤◌, ◌++◌, ◌∷◌, [], length, true, IfOk, IfSome, OnErr, OnOk, map};
@@ -10,8 +10,8 @@ use crate::held::HeldContract;
 use crate::note::found_in;
 use crate::rooms::{Manner, RoomContracts};
 use smf_contract::Found as FoundContract;
+use smf_edge::{Contracts, Kid};
 use smf_fmri::Number;
-use smf_follow::{Contracts, Kid};
 use smf_room::{Begun, Found, LiveRoom, Room};
 use std::alloc::{AllocError, Global};
 use std::io;

@@ -2,7 +2,7 @@
 ghost use Rattle.smf_keeper.specs.Ends.{end_if_known, end_of};
 ghost use Rattle.std.specs.Prelude.{◌≡◌};
 
-use smf_follow::FirstEnd;
+use smf_edge::FirstEnd;
 
 /// The end that a status tells, as wait gives it: the signal in the last seven bits, whether a core was left in the one
 /// above, and then the code (wait(2)).

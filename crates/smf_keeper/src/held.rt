@@ -2,7 +2,7 @@ ghost use Rattle.smf_keeper.specs.Endings.{IsToldAgain, gone_of};
 ghost use Rattle.smf_keeper.specs.Rooms.{IsAskedIf, IsKept, IsNoted, StoodSo};
 ghost use Rattle.std.specs.Prelude.{◌≡◌, false, IfSome, None, Some};
 
-use smf_follow::{FirstEnd, Stand};
+use smf_edge::{FirstEnd, Stand};
 use smf_room::Room;
 use std::marker::PhantomData;
 

@@ -1,11 +1,11 @@
 // Contracts in a room that a server has.
-ghost use Rattle.smf_follow.specs.Facts.{one_more_made};
+ghost use Rattle.smf_edge.specs.FollowedFacts.{one_more_made};
 ghost use Rattle.smf_keeper.specs.Ends.{end_if_known, end_of};
 ghost use Rattle.smf_keeper.specs.Endings.{IsAsk, IsAskedInVain, IsEnd, IsCancelFailed, IsCancelIf, IsEndFailed, IsEndIf, IsEndLost, IsEndOnce, IsEndStep, IsEndStepLost, IsStandAsk, IsStandLost, IsStandTold, IsToldAgain, IsWaitLost, IsWaited, gone_of, signal_of, still_asked};
 ghost use Rattle.smf_keeper.specs.Rooms.{HasGone, IsMadeFor, IsNotStarted, IsStartFor, IsUnasked, MayLive, SameMade, StartFails, StoodSo, WasHeard, made_in};
 ghost use Rattle.smf_keeper.specs.Stands.{IsLost, IsLostBy, IsStandBy, IsStanding, end_in, stand_in};
-ghost use Rattle.smf_follow.specs.declared.stand.Stand.TheVariants.{Gone};
-ghost use Rattle.smf_follow.specs.declared.stand.FirstEnd.{FirstEnd as AnyEnd};
+ghost use Rattle.smf_edge.specs.declared.stand.Stand.TheVariants.{Gone};
+ghost use Rattle.smf_edge.specs.declared.stand.FirstEnd.{FirstEnd as AnyEnd};
 ghost use Rattle.smf_room.specs.LiveRooms.{GoesOn};
 ghost use Rattle.smf_room.specs.Tellings.{Heard};
 ghost use Rattle.smf_room.specs.declared.look.Look.TheVariants.{Unclean};
@@ -17,8 +17,7 @@ use crate::ends::{end_if_known, end_of};
 use crate::held::{HeldContract, MOST_TOLD};
 use crate::news::News;
 use crate::note::note_of;
-use smf_edge::Start;
-use smf_follow::{Contracts, FirstEnd, Stand};
+use smf_edge::{Contracts, FirstEnd, Stand, Start};
 use smf_room::{LiveRoom, Look, Room, Token};
 use std::alloc::Global;
 use std::io;

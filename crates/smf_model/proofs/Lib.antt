@@ -23,3 +23,5 @@ pub mod Sound
 pub mod States
 pub mod ReadAnew
 pub mod Written
+pub mod Crashes
+pub mod Turns

@@ -13,3 +13,5 @@ pub mod Events
 pub mod Whole
 pub mod Journals
 pub mod Copied
+pub mod Clients
+pub mod Refusals

@@ -8,11 +8,14 @@
 //! Other commands: `proposals` (proposals), `boot_changes` (boot).
 //! The repository: `journal` (the promises of a journal), `plain` (the repository over a journal), `reads` (reads),
 //! `views` (the graph's view, and snapshots by name).
-//! Laws: `law` (the laws that no list of commands breaks).
+//! What its clients see: `client` (edits and reads), `refusal` (the words of refusals).
+//! Laws: `law` (the laws that no list of commands breaks), `client_law` (what a crash leaves after edits).
 #![tactic(auto)]
 
 mod boot_changes;
 mod change;
+mod client;
+mod client_law;
 mod command;
 mod dispatch;
 mod general_group;
@@ -27,11 +30,14 @@ mod planner;
 mod proposals;
 mod reads;
 mod refreshes;
+mod refusal;
 mod reverts;
 mod tables;
 mod views;
 
 pub use change::{Change, Outcome};
+pub use client::Client;
+pub use client_law::{a_crash_leaves_the_first_edits, an_accepted_edit_outlasts_a_crash};
 pub use command::{Command, CommandReply, Edit, Mark, PropertyChange};
 pub use general_group::Setting;
 pub use held::{
@@ -45,4 +51,5 @@ pub use law::{
     rows_never_fall_back, snapshots_stay,
 };
 pub use plain::Plain;
+pub use refusal::refusal_text;
 pub use tables::Tables;

@@ -11,7 +11,7 @@ use Rattle.smf_node.specs.Clients.{IsEditOf, IsEnd, fault_by, held_by}
 use Rattle.smf_node.specs.declared.fault.NodeFault.{NodeFault}
 use Rattle.smf_node.specs.declared.fault.NodeFault.TheVariants as faults
 use Rattle.smf_node.specs.Faults.{IsLack}
-use Rattle.smf_repo.specs.Clients.{AreGiven, Given, IsEditedAlone}
+use Rattle.smf_model.specs.Clients.{AreGiven, Given, IsEditedAlone}
 use Rattle.smf_world.specs.declared.event.Event.TheVariants as events
 use Rattle.smf_world.specs.Happens.{world_after, happens}
 use Rattle.smf_world.specs.Reached.{IsLater}

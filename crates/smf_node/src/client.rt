@@ -4,7 +4,7 @@ ghost use Rattle.smf_model.specs.declared.journal.RepoFault.TheVariants.{Memory}
 ghost use Rattle.smf_model.specs.Next.{next};
 ghost use Rattle.smf_node.specs.Clients.{IsEditOf, fault_by, held_by};
 ghost use Rattle.smf_node.specs.declared.fault.NodeFault.TheVariants as faults;
-ghost use Rattle.smf_repo.specs.Clients.{IsEditedAlone};
+ghost use Rattle.smf_model.specs.Clients.{IsEditedAlone};
 ghost use Rattle.smf_world.specs.Reached.{IsLater};
 ghost use Rattle.smf_world.specs.Schedule.{Progress as AnyProgress};
 
@@ -12,9 +12,9 @@ use crate::fault::NodeFault;
 use crate::node::Node;
 use smf_fmri::{InstanceFmri, Items, Number, Ordered, ServiceFmri, Table};
 use smf_model::{
-    CommandReply, Edit, Instance, InstanceName, Journal, Owner, RepoFault, Service, Snapshot,
+    Client, CommandReply, Edit, Instance, InstanceName, Journal, Owner, RepoFault, Service,
+    Snapshot,
 };
-use smf_repo::Client;
 use smf_snap::SnapshotName;
 use smf_value::Group;
 use std::alloc::AllocError;

@@ -9,7 +9,7 @@ use Rattle.std_io.specs.declared.io.kind.ErrorKind.TheVariants as io_kinds
 use Rattle.clap.specs.Words.{IsAmong, fault_of}
 use Rattle.clap.specs.declared.error.kind.ErrorKind.{ErrorKind}
 use Rattle.clap.specs.declared.error.kind.ErrorKind.TheVariants as kinds
-use Rattle.smf_cfg.specs.Outcomes.{IsTold}
+use Rattle.smf_lines.specs.Told.{IsTold}
 use Rattle.smf_program.specs.declared.refusal.Refusal.{Refusal}
 use Rattle.smf_program.specs.declared.refusal.Refusal.TheVariants.{Help, Version, BadUsage, NoText, Memory}
 use Rattle.smf_program.specs.Tasks.{task_of}

@@ -1,9 +1,8 @@
 ghost use Rattle.std.specs.Prelude.{◌≡◌, codes};
-ghost use Rattle.smf_cfg.specs.Outcomes.{IsTold};
+ghost use Rattle.smf_lines.specs.Told.{IsTold};
 ghost use Rattle.smf_program.specs.Messages.{database_text, failed_because};
 
-use smf_cfg::tell;
-use smf_lines::TextWriter;
+use smf_lines::{TextWriter, tell};
 use sqlite::{Error, ErrorCode};
 
 /// The library failed, and on a second line why, if the error's code gives a reason.

@@ -6,8 +6,7 @@ ghost use Rattle.smf_program.specs.Refusals.{IsHelped, IsOfKind, IsRefused, IsUs
 
 use clap::Error;
 use clap::error::ErrorKind;
-use smf_cfg::tell;
-use smf_lines::TextWriter;
+use smf_lines::{TextWriter, tell};
 use std::alloc::Global;
 use std::io;
 

@@ -11,18 +11,8 @@ use smf_contract::Method;
 use smf_dep::GraphMember;
 use smf_method::{MethodCall, MethodFault, ReadMethod};
 use smf_state::ViewItem;
-use smf_world::Item;
+use smf_world::{Item, is_start};
 use std::alloc::{AllocError, Global};
-
-fn is_start(method: Method) -> bool
-    ensures { result ≡ is_start method }
-{
-    match method {
-        Method::Start => true,
-        Method::Stop => false,
-        Method::Refresh => false,
-    }
-}
 
 /// The start method of an instance, if it can be read.
 fn start_method(

@@ -28,5 +28,5 @@ pub use hint_law::hints_are_told_so;
 pub use law::{flaws_are_exact, reasons_are_exact};
 pub use reason::{Reason, Standing, Told};
 pub use reasons::tell;
-pub use text::{check_text_of, text_of};
+pub use text::{check_text_of, grouping_text, text_of};
 pub use view_hints::{hint_text, programs_of};

@@ -11,7 +11,8 @@ use smf_state::State;
 use std::alloc::{AllocError, Global};
 use std::fmt::Write;
 
-fn grouping_text(grouping: Grouping) -> &'static str
+/// The word of a grouping, as `svccfg` takes it.
+pub fn grouping_text(grouping: Grouping) -> &'static str
     ensures { result.now ≡ grouping_text grouping }
 {
     match grouping {

@@ -4,8 +4,8 @@ use Rattle.std.proofs.lemmas.List.{map-append, take_more}
 use Rattle.smf_contract.specs.declared.found.Found.{Found}
 use Rattle.smf_contract.specs.Laws.{Ascends}
 use Rattle.smf_contract.proofs.Ordered.{ascends_more}
-use Rattle.smf_follow.specs.Beginnings.{found_post, found_posts}
-use Rattle.smf_follow.specs.Phases.{Post}
+use Rattle.smf_edge.specs.FollowedBeginnings.{found_post, found_posts}
+use Rattle.smf_edge.specs.Phases.{Post}
 
 abbrev ids : List Found → List ℕ
 ids fs = map (λ f. f.id) fs

@@ -6,8 +6,8 @@ use Rattle.std.specs.Prelude.{nat_eq}
 use Rattle.smf_fmri.specs.Counts.{no_space, read_count}
 use Rattle.smf_fmri.proofs.Counts.{decimal_spaceless, printed_is_read, read_is_printed}
 use Rattle.smf_fmri.proofs.Patterns.{same_text}
-use Rattle.smf_follow.specs.declared.stand.FirstEnd.{FirstEnd}
-use Rattle.smf_follow.specs.declared.stand.FirstEnd.TheVariants.{Code, Signal, Core}
+use Rattle.smf_edge.specs.declared.stand.FirstEnd.{FirstEnd}
+use Rattle.smf_edge.specs.declared.stand.FirstEnd.TheVariants.{Code, Signal, Core}
 use Rattle.smf_state.proofs.Lines.{IsSpelling}
 use Rattle.smf_state.proofs.Words.{Any}
 use Rattle.smf_record.specs.declared.answer.EndAnswer.{EndAnswer}

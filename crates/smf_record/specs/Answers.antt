@@ -5,8 +5,8 @@ use Rattle.std.specs.IoError.{error_kind}
 use Rattle.std_io.specs.declared.io.error.Error.{Error}
 use Rattle.std_io.specs.declared.io.kind.ErrorKind.TheVariants.{OutOfMemory}
 use Rattle.smf_edge.specs.declared.start.Start.{Start}
-use Rattle.smf_follow.specs.declared.stand.Stand.{Stand}
-use Rattle.smf_follow.specs.declared.stand.Stand.TheVariants as stands
+use Rattle.smf_edge.specs.declared.stand.Stand.{Stand}
+use Rattle.smf_edge.specs.declared.stand.Stand.TheVariants as stands
 use Rattle.smf_watch.specs.declared.ask.ServerInput.{ServerInput}
 use Rattle.smf_watch.specs.declared.ask.ServerInput.TheVariants as asks
 use Rattle.smf_record.specs.declared.answer.Answer.{Answer}

@@ -3,8 +3,8 @@ use Rattle.std.specs.Prelude.{◌<◌, ◌^◌, ℕ, List, nat_eq, nat_lt, codes
 use Rattle.std.specs.Cmp.Lexicographic.{pointwise}
 use Rattle.std.specs.Fmt.{decimal}
 use Rattle.smf_fmri.specs.Counts.{read_count}
-use Rattle.smf_follow.specs.declared.stand.FirstEnd.{FirstEnd}
-use Rattle.smf_follow.specs.declared.stand.FirstEnd.TheVariants.{Code, Signal, Core}
+use Rattle.smf_edge.specs.declared.stand.FirstEnd.{FirstEnd}
+use Rattle.smf_edge.specs.declared.stand.FirstEnd.TheVariants.{Code, Signal, Core}
 use Rattle.smf_record.specs.Answers.{Seen}
 use Rattle.smf_record.specs.declared.answer.Answer.TheVariants as answers
 use Rattle.smf_record.specs.declared.answer.EndAnswer.{EndAnswer}

@@ -4,7 +4,7 @@ ghost use Rattle.std_io.specs.declared.io.kind.ErrorKind.TheVariants.{OutOfMemor
 ghost use Rattle.smf_record.specs.Answers.{IsStartEnd, asked_answer, end_answer, seen_now, stand_answer};
 ghost use Rattle.smf_record.specs.declared.answer.StartEnd.TheVariants.{NoMemory, Refused};
 
-use smf_follow::{FirstEnd, Stand};
+use smf_edge::{FirstEnd, Stand};
 use smf_watch::ServerInput;
 use std::io;
 use std::io::ErrorKind;

@@ -1,14 +1,14 @@
 //! The contracts with which a server went on, as children of which only answers are known.
 
 ghost use Rattle.smf_contract.specs.Laws.{Ascends};
-ghost use Rattle.smf_follow.specs.Beginnings.{found_post, found_posts};
-ghost use Rattle.smf_follow.specs.Phases.{posts};
+ghost use Rattle.smf_edge.specs.FollowedBeginnings.{found_post, found_posts};
+ghost use Rattle.smf_edge.specs.Phases.{posts};
 ghost use Rattle.std.specs.Prelude.{◌≡◌, ◌∷◌, ◌++◌, [], IfOk, IfSome, OnOk, map};
 
 use crate::replayed::ReplayedContract;
 use smf_contract::Found;
+use smf_edge::Kid;
 use smf_fmri::Number;
-use smf_follow::Kid;
 use std::alloc::{AllocError, Global};
 
 /// Contracts with which a table begins, the same as children, and the greatest id.

@@ -7,7 +7,7 @@ ghost use Rattle.smf_record.specs.declared.answer.Answer.TheVariants as answers;
 use crate::answer::{Answer, StartAnswer};
 use crate::digits::hex_text;
 use crate::word::{end_answer_text, start_end_text};
-use smf_follow::FirstEnd;
+use smf_edge::FirstEnd;
 use std::alloc::{AllocError, Global};
 use std::fmt::Write;
 

@@ -11,7 +11,7 @@ ghost use Rattle.smf_state.specs.Fields.{IsRead, left_of, next_field, text_of_bo
 use crate::answer::{Answer, EndAnswer, Moment, StartAnswer, StartEnd};
 use crate::digits::read_hex;
 use crate::word::{Word, read_end, read_end_answer, read_nanoseconds, read_start_end, read_word};
-use smf_follow::FirstEnd;
+use smf_edge::FirstEnd;
 use smf_state::{FieldFault, WrongField, field_at, flag_at, left_of, number_at};
 use std::alloc::Global;
 

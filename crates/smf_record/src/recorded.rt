@@ -2,7 +2,7 @@
 
 ghost use Rattle.std.specs.Prelude.{◌≡◌, ◌∷◌, [], ◌⊎◌, IfErr, IfOk, OnErr, OnOk, false, true};
 ghost use Rattle.smf_edge.specs.Starts.{log_with};
-ghost use Rattle.smf_follow.specs.Facts.{one_more_made};
+ghost use Rattle.smf_edge.specs.FollowedFacts.{one_more_made};
 ghost use Rattle.smf_record.specs.Answers.{IsStartOf, asked_answer, end_answer, stand_answer};
 ghost use Rattle.smf_record.specs.declared.answer.Answer.TheVariants as answers;
 ghost use Rattle.smf_record.specs.declared.answer.StartAnswer.{StartAnswer};
@@ -10,8 +10,7 @@ ghost use Rattle.smf_watch.specs.Traffic.{LeavesAt, LeavesNoMore, Told, asked_in
 
 use crate::answer::{Answer, StartAnswer, asked_answer, end_answer, stand_answer, start_end};
 use crate::sink::{Sink, TimeSink};
-use smf_edge::Start;
-use smf_follow::{Contracts, Stand};
+use smf_edge::{Contracts, Stand, Start};
 use smf_model::{Journal, Plain};
 use smf_watch::{Desk, ServerInput, Timer};
 use std::io;

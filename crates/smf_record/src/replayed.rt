@@ -14,8 +14,7 @@ ghost use Rattle.smf_watch.specs.declared.ask.ServerInput.TheVariants as asks;
 
 use crate::answer::{EndAnswer, Moment, StandAnswer, StartAnswer, StartEnd};
 use crate::gathered::StandRun;
-use smf_edge::Start;
-use smf_follow::{Contracts, Stand};
+use smf_edge::{Contracts, Stand, Start};
 use smf_model::{Journal, Plain};
 use smf_watch::{Desk, ServerInput, Timer};
 use std::alloc::{AllocError, Global};

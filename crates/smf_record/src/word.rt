@@ -4,8 +4,8 @@ ghost use Rattle.std.specs.Prelude.{◌≡◌};
 ghost use Rattle.smf_record.specs.Words.{end_of_count, end_answer_text, read_end, read_end_answer, read_nanoseconds, read_start_end, read_word, start_end_text};
 
 use crate::answer::{EndAnswer, StartEnd};
+use smf_edge::FirstEnd;
 use smf_fmri::read_count;
-use smf_follow::FirstEnd;
 
 /// The word that an answer begins with.
 #[derive(Clone, Copy, PartialEq, Eq)]

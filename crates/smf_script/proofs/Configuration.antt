@@ -1,9 +1,9 @@
 -- What becomes of a node when svccfg does a line over it.
 use Rattle.std.proofs.Common.{◌≡◌, inl, inr, Result, Ok, Err}
-use Rattle.smf_cfg.specs.declared.fault.SessionFault.{SessionFault}
-use Rattle.smf_cfg.specs.declared.fault.SessionFault.TheVariants.{Refused, Repo}
-use Rattle.smf_cfg.specs.declared.output.Output.{Output}
-use Rattle.smf_cfg.specs.Sessions.{IsGivenOr}
+use Rattle.smf_script.specs.declared.cfg_fault.SessionFault.{SessionFault}
+use Rattle.smf_script.specs.declared.cfg_fault.SessionFault.TheVariants.{Refused, Repo}
+use Rattle.smf_script.specs.declared.cfg_output.Output.{Output}
+use Rattle.smf_script.specs.CfgLines.{IsGivenOr}
 use Rattle.smf_model.specs.declared.command.CommandReply.{CommandReply}
 use Rattle.smf_model.specs.declared.command.Edit.{Edit}
 use Rattle.smf_model.specs.declared.journal.RepoFault.{RepoFault}

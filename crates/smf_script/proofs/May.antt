@@ -12,7 +12,7 @@ use Rattle.smf_restarter.specs.Knowledge.{Knowledge}
 use Rattle.smf_script.specs.Failures.{MayEnd, RequestFails}
 use Rattle.smf_script.specs.Faults.{MayStop}
 use Rattle.smf_script.specs.Session.{Session}
-use Rattle.smf_words.specs.declared.request.NodeRequest.{NodeRequest}
+use Rattle.smf_script.specs.declared.request.NodeRequest.{NodeRequest}
 use Rattle.smf_world.specs.declared.event.Event.{Event}
 use Rattle.smf_world.specs.declared.event.Event.TheVariants as events
 use Rattle.smf_world.specs.Schedule.{Progress}

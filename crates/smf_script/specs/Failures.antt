@@ -15,8 +15,8 @@ use Rattle.smf_svccfg.specs.Judged.{judgement_of}
 use Rattle.smf_svccfg.specs.declared.fault.CfgFault.{CfgFault}
 use Rattle.smf_svccfg.specs.declared.selection.Judged.{Judged}
 use Rattle.smf_svccfg.specs.declared.selection.Judged.TheVariants as judgements
-use Rattle.smf_words.specs.declared.request.NodeRequest.{NodeRequest}
-use Rattle.smf_words.specs.declared.request.NodeRequest.TheVariants as requests
+use Rattle.smf_script.specs.declared.request.NodeRequest.{NodeRequest}
+use Rattle.smf_script.specs.declared.request.NodeRequest.TheVariants as requests
 use Rattle.smf_world.specs.Schedule.{Progress}
 
 -- ---- whether a line asks the repository to change

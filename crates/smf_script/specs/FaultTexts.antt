@@ -1,6 +1,6 @@
 -- The text of a fault that ended a script.
 use Rattle.std.specs.Prelude.{ℕ, List, codes}
-use Rattle.smf_cfg.specs.Outcomes.{read_text}
+use Rattle.smf_lines.specs.Told.{read_text}
 use Rattle.smf_node.specs.declared.fault.NodeFault.{NodeFault}
 use Rattle.smf_node.specs.declared.fault.NodeFault.TheVariants as nodes
 use Rattle.smf_script.specs.declared.fault.ScriptFault.{ScriptFault}

@@ -3,3 +3,17 @@ pub mod Failures
 pub mod Faults
 pub mod FaultTexts
 pub mod Script
+pub mod Requests
+pub mod CfgRuns
+pub mod CfgLines
+pub mod CfgEnds
+pub mod Moves
+pub mod Forgets
+pub mod Drives
+pub mod Agrees
+pub mod LineFailures
+pub mod Ends
+pub mod ScriptRuns
+pub mod Lines
+pub mod Agreed
+pub mod Asks

@@ -26,14 +26,14 @@ use Rattle.smf_model.specs.Next.{current_instance as instance_found}
 use Rattle.smf_node.specs.Marks.{last_delivered}
 use Rattle.smf_model.specs.declared.command.Edit.{Edit}
 use Rattle.smf_model.specs.declared.command.CommandReply.{CommandReply}
-use Rattle.smf_repo.specs.Refusals.{refusal}
-use Rattle.smf_words.specs.Text.{line_end, trail_text}
-use Rattle.smf_words.specs.declared.request.NodeRequest.{NodeRequest}
-use Rattle.smf_words.specs.declared.request.NodeRequest.TheVariants as requests
-use Rattle.smf_cfg.specs.Runs.{failure_text}
-use Rattle.smf_cfg.specs.Sessions.{Done, at, ran}
-use Rattle.smf_cfg.specs.declared.fault.SessionFault.{SessionFault}
-use Rattle.smf_cfg.specs.declared.output.Output.{Output}
+use Rattle.smf_model.specs.Refusals.{refusal}
+use Rattle.smf_world.specs.TrailText.{line_end, trail_text}
+use Rattle.smf_script.specs.declared.request.NodeRequest.{NodeRequest}
+use Rattle.smf_script.specs.declared.request.NodeRequest.TheVariants as requests
+use Rattle.smf_script.specs.CfgRuns.{failure_text}
+use Rattle.smf_script.specs.CfgLines.{Done, at, ran}
+use Rattle.smf_script.specs.declared.cfg_fault.SessionFault.{SessionFault}
+use Rattle.smf_script.specs.declared.cfg_output.Output.{Output}
 use Rattle.smf_svccfg.specs.Judged.{judgement_of}
 use Rattle.smf_svccfg.specs.declared.fault.CfgFault.{CfgFault}
 use Rattle.smf_svccfg.specs.declared.selection.Judged.{Judged}

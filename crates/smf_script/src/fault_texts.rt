@@ -2,7 +2,7 @@ ghost use Rattle.std.specs.Prelude.{◌≡◌};
 ghost use Rattle.smf_script.specs.FaultTexts.{fault_text, node_text};
 
 use crate::fault::ScriptFault;
-use smf_cfg::read_text;
+use smf_lines::read_text;
 use smf_node::NodeFault;
 
 fn node_text(fault: NodeFault) -> &'static str

@@ -85,7 +85,7 @@ fn latest_place(table: &ContractTable, instance: u64) -> Option<usize>
 }
 
 /// The contract of an instance that has members, of its latest run.
-pub fn latest(table: &ContractTable, instance: u64) -> Option<Contract>
+pub(crate) fn latest(table: &ContractTable, instance: u64) -> Option<Contract>
     ensures { result ≡ latest table.now.table instance }
 {
     latest_place(table, instance).map(|k| table.contracts()[k])
@@ -108,7 +108,7 @@ pub(crate) fn happen<J: Journal>(node: &mut Node<J>, event: Event) -> Result<boo
 }
 
 /// Says why a line is refused.
-pub fn refuse(out: &mut String, text: &str) -> Result<bool, NodeFault>
+pub(crate) fn refuse(out: &mut String, text: &str) -> Result<bool, NodeFault>
     ensures flag { IfOk result (λ fine. fine ≡ false) }
     ensures put { OnOk result (string_bytes out.new ≡ string_bytes out.old ++ text.now) }
     ensures fault { IfErr result (λ e. e ≡ Memory) }
@@ -118,7 +118,7 @@ pub fn refuse(out: &mut String, text: &str) -> Result<bool, NodeFault>
 }
 
 /// Says that a word matches no instance.
-pub fn refuse_word(alloc: Global, out: &mut String, word: &Text) -> Result<bool, NodeFault>
+pub(crate) fn refuse_word(alloc: Global, out: &mut String, word: &Text) -> Result<bool, NodeFault>
     ensures flag { IfOk result (λ fine. fine ≡ false) }
     ensures put { OnOk result (string_bytes out.new ≡ string_bytes out.old ++ no_match_text script_name word.now) }
     ensures fault { IfErr result (λ e. e ≡ Memory) }
@@ -128,7 +128,7 @@ pub fn refuse_word(alloc: Global, out: &mut String, word: &Text) -> Result<bool,
 }
 
 /// Says that a word matches so many instances.
-pub fn refuse_several(
+pub(crate) fn refuse_several(
     alloc: Global,
     out: &mut String,
     word: &Text,
@@ -143,7 +143,11 @@ pub fn refuse_several(
 }
 
 /// Which instance a word stands for, over what a node holds.
-pub fn found_on<J: Journal>(alloc: Global, node: &Node<J>, word: &Text) -> Result<Found, AllocError>
+pub(crate) fn found_on<J: Journal>(
+    alloc: Global,
+    node: &Node<J>,
+    word: &Text,
+) -> Result<Found, AllocError>
     ensures { IfOk result (λ found. found ≡ found_of node.now.world.now.names word.now) }
 {
     found_of(alloc, node.repository().names(), word)

@@ -1,26 +1,26 @@
 ghost use Rattle.std.specs.Prelude.{◌≡◌, ◌⊎◌, [], ◌++◌, ◌∷◌, false, IfErr, IfOk, OnOk, is_none, reverse, string_bytes, true};
 ghost use Rattle.std.specs.List.{list_any};
 ghost use Rattle.smf_admin.specs.Requests.{commands_of};
-ghost use Rattle.smf_repo.specs.Refusals.{refusal};
-ghost use Rattle.smf_words.specs.declared.request.NodeRequest.TheVariants as requests;
+ghost use Rattle.smf_model.specs.Refusals.{refusal};
+ghost use Rattle.smf_script.specs.declared.request.NodeRequest.TheVariants as requests;
 ghost use Rattle.smf_script.specs.Session.{IsDeed, IsEffect, deed_of_command, asked_all, success_deed, effect_of, deed_of_edit, listing_of, settled_text, svcadm, svccfg, svcs, told_text};
 ghost use Rattle.smf_script.specs.Failures.{AreDone, DeedFails, MayEnd, RequestFails, SvcadmLeaves, give_edits, gives_edit};
-ghost use Rattle.smf_words.specs.Text.{trail_text};
+ghost use Rattle.smf_world.specs.TrailText.{trail_text};
 ghost use Rattle.smf_world.specs.Reached.{IsLater};
 
+use crate::cfg_fault::SessionFault;
+use crate::cfg_line::do_cfg_line;
 use crate::processes::{crash, refuse, time_out};
+use crate::request::NodeRequest;
 use smf_admin::{
     Asked, Listing, Options, commands_of, no_match_text, options_of, several_text, svcadm_usage,
     svcs_text, svcs_usage,
 };
-use smf_cfg::{SessionFault, run_line};
 use smf_fmri::{Items, Text};
-use smf_model::{CommandReply, Edit, Journal};
+use smf_model::{CommandReply, Edit, Journal, refusal_text};
 use smf_node::{Node, NodeFault};
-use smf_repo::refusal_text;
 use smf_svccfg::{Selection, fault_text};
-use smf_words::{NodeRequest, trail_text};
-use smf_world::Settled;
+use smf_world::{Settled, trail_text};
 use std::alloc::{AllocError, Global};
 
 /// Puts the name of a program, words, and the end of a line.
@@ -87,7 +87,7 @@ fn svccfg<J: Journal>(
         (λ e. RequestFails J.write_fails (record { progress = node.old; selection = selection.old })
         (requests.Svccfg line.now) node.new e) }
 {
-    match run_line(alloc, node, selection, line) {
+    match do_cfg_line(alloc, node, selection, line) {
         Ok(output) => {
             out.push_str(output.text.as_str())?;
             Ok(true)

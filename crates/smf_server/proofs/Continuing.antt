@@ -7,9 +7,9 @@ use Rattle.smf_contract.specs.declared.contract.Holder.TheVariants.{Held, Inheri
 use Rattle.smf_contract.specs.declared.found.Found.{Found}
 use Rattle.smf_contract.specs.Begun.{table_of_found}
 use Rattle.smf_contract.specs.Laws.{Ascends}
-use Rattle.smf_drive.specs.Agrees.{AgreesSince, before_over}
-use Rattle.smf_drive.specs.Forgets.{AgreesAnew}
-use Rattle.smf_drive.proofs.Beginnings.{agree_found}
+use Rattle.smf_script.specs.Agrees.{AgreesSince, before_over}
+use Rattle.smf_script.specs.Forgets.{AgreesAnew}
+use Rattle.smf_script.proofs.Beginnings.{agree_found}
 use Rattle.smf_edge.specs.Answers.{Seen, Skills}
 use Rattle.smf_edge.specs.Ledgers.{Ledger, ledger_over}
 use Rattle.smf_model.specs.Contents.{Holdings}

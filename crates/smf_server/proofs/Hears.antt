@@ -1,8 +1,8 @@
 -- Events that children give are moves.
 use Rattle.std.proofs.Common.{◌≡◌, ℕ, zero, suc, Bool, None, inl, inr, refl, sym, ap, subst}
-use Rattle.smf_drive.specs.Moves.{Moves}
-use Rattle.smf_drive.specs.Moves.IsMove.{polled}
-use Rattle.smf_drive.proofs.Moves.{moves_none, moves_then, one_move}
+use Rattle.smf_script.specs.Moves.{Moves}
+use Rattle.smf_script.specs.Moves.IsMove.{polled}
+use Rattle.smf_script.proofs.Moves.{moves_none, moves_then, one_move}
 use Rattle.smf_edge.specs.Answers.{Skills}
 use Rattle.smf_machine.specs.Runners.{HasGiven, rules_of}
 use Rattle.smf_node.specs.declared.fault.NodeFault.{NodeFault}

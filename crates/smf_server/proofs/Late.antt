@@ -1,9 +1,9 @@
 -- Methods that take too long are moves.
 use Rattle.std.proofs.Common.{List, [], ◌∷◌, Bool, true, false, refl, sym, subst}
 use Rattle.std.specs.declared.time.Duration.{Duration}
-use Rattle.smf_drive.specs.Moves.{Moves}
-use Rattle.smf_drive.specs.Moves.IsMove.{alone}
-use Rattle.smf_drive.proofs.Moves.{moves_none, moves_then, one_move}
+use Rattle.smf_script.specs.Moves.{Moves}
+use Rattle.smf_script.specs.Moves.IsMove.{alone}
+use Rattle.smf_script.proofs.Moves.{moves_none, moves_then, one_move}
 use Rattle.smf_edge.specs.Ledgers.{Ledger}
 use Rattle.smf_model.specs.declared.journal.RepoFault.{RepoFault}
 use Rattle.smf_node.specs.declared.fault.NodeFault.{NodeFault}

@@ -1,8 +1,8 @@
 -- Marks, retries and looks at the trail, in which children have no part.
 use Rattle.std.proofs.Common.{◌≡◌, ℕ, List, [], ◌∷◌, Option, sym, ap, ◌∙◌, subst}
 use Rattle.std.specs.declared.time.Duration.{Duration}
-use Rattle.smf_drive.specs.Agrees.{AgreesSince, Before}
-use Rattle.smf_drive.proofs.Agreement.{IsQuiet, agree_quiet, quiet_nothing}
+use Rattle.smf_script.specs.Agrees.{AgreesSince, Before}
+use Rattle.smf_script.proofs.Agreement.{IsQuiet, agree_quiet, quiet_nothing}
 use Rattle.smf_edge.specs.Ledgers.{Ledger}
 use Rattle.smf_model.specs.declared.command.Edit.{Edit}
 use Rattle.smf_model.specs.declared.journal.RepoFault.{RepoFault}

@@ -1,8 +1,8 @@
 -- How a server goes on, turn by turn.
 use Rattle.std.proofs.Common.{◌≡◌, ◌⊎◌, inl, inr, ◌<◌, ◌+◌, ℕ, zero, suc, List, [], ◌∷◌, ◌++◌, length, get_or, drop, map, Bool, true, false, Option, Some, None, refl, sym, ap, subst, ◌∙◌, append_assoc, append-nil, arith}
 use Rattle.std.specs.declared.time.Duration.{Duration}
-use Rattle.smf_drive.specs.Agrees.{AgreesSince, Before}
-use Rattle.smf_drive.specs.Forgets.{AgreesAnew}
+use Rattle.smf_script.specs.Agrees.{AgreesSince, Before}
+use Rattle.smf_script.specs.Forgets.{AgreesAnew}
 use Rattle.smf_edge.specs.Answers.{Skills}
 use Rattle.smf_edge.specs.Starts.{log_with}
 use Rattle.smf_model.specs.declared.journal.RepoFault.{RepoFault}

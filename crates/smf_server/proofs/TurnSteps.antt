@@ -1,9 +1,9 @@
 -- The state after a turn, out of the steps of its parts.
 use Rattle.std.proofs.Common.{◌≡◌, inl, inr, ℕ, List, [], ◌∷◌, map, Bool, true, false, Option, Some, refl, sym, ap, subst, ◌∙◌}
 use Rattle.std.specs.declared.time.Duration.{Duration}
-use Rattle.smf_drive.specs.Moves.{Moves}
-use Rattle.smf_drive.proofs.Events.{later_driven}
-use Rattle.smf_drive.proofs.Moves.{driven_moved}
+use Rattle.smf_script.specs.Moves.{Moves}
+use Rattle.smf_script.proofs.Events.{later_driven}
+use Rattle.smf_script.proofs.Moves.{driven_moved}
 use Rattle.smf_edge.specs.Answers.{Seen, Skills}
 use Rattle.smf_edge.specs.Ledgers.{Ledger}
 use Rattle.smf_edge.specs.Starts.{log_with}
@@ -12,7 +12,7 @@ use Rattle.smf_lines.specs.Lines.{lines_of}
 use Rattle.smf_node.specs.declared.fault.NodeFault.{NodeFault}
 use Rattle.smf_node.specs.declared.fault.NodeFault.TheVariants.{Memory}
 use Rattle.smf_node.specs.Rounds.{Course}
-use Rattle.smf_run.specs.Scripts.{Stops}
+use Rattle.smf_script.specs.ScriptRuns.{Stops}
 use Rattle.smf_script.specs.declared.fault.ScriptFault.{ScriptFault}
 use Rattle.smf_script.specs.declared.fault.ScriptFault.TheVariants.{Node}
 use Rattle.smf_script.specs.Script.{first_session, silent}

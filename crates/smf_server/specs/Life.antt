@@ -2,8 +2,8 @@
 use Rattle.std.specs.Prelude.{◌≡◌, ℕ, List, [], ◌∷◌, ◌++◌, length, ◌&&◌, not, Bool, true, false, Option, Some, None, Result}
 use Rattle.std.specs.declared.alloc.AllocError.{AllocError}
 use Rattle.std.specs.declared.time.Duration.{Duration}
-use Rattle.smf_drive.specs.Agrees.{AgreesSince, Before}
-use Rattle.smf_drive.specs.Forgets.{AgreesAnew}
+use Rattle.smf_script.specs.Agrees.{AgreesSince, Before}
+use Rattle.smf_script.specs.Forgets.{AgreesAnew}
 use Rattle.smf_edge.specs.Answers.{Seen, Skills}
 use Rattle.smf_contract.specs.Begun.{table_of_found}
 use Rattle.smf_contract.specs.declared.contract.Holder.TheVariants.{Inherited}
@@ -15,8 +15,8 @@ use Rattle.smf_node.specs.Rounds.{course}
 use Rattle.smf_past.specs.Begun.{IsSafeSince}
 use Rattle.smf_past.specs.Lived.{continued}
 use Rattle.smf_past.specs.Lives.{LeadsTo}
-use Rattle.smf_run.specs.Ends.{HasEndedAll}
-use Rattle.smf_run.specs.declared.ends.Leftover.{Leftover}
+use Rattle.smf_script.specs.Ends.{HasEndedAll}
+use Rattle.smf_script.specs.declared.ends.Leftover.{Leftover}
 use Rattle.smf_script.specs.declared.fault.ScriptFault.{ScriptFault}
 use Rattle.smf_script.specs.FaultTexts.{fault_text}
 use Rattle.smf_world.specs.declared.event.Event.TheVariants as events

@@ -2,8 +2,8 @@
 use Rattle.std.specs.Prelude.{◌≡◌, ◌⊎◌, ℕ, zero, suc, nat_lt, nat_eq, ◌||◌, ◌&&◌, not, List, [], ◌∷◌, ◌++◌, length, drop, filter, map, reverse, Bool, true, false, Option, Some, None}
 use Rattle.std.specs.Cmp.Lexicographic.{pointwise}
 use Rattle.std.specs.declared.time.Duration.{Duration}
-use Rattle.smf_drive.specs.Agrees.{AgreesSince, Before}
-use Rattle.smf_drive.specs.Forgets.{HasForgotten as Forgot}
+use Rattle.smf_script.specs.Agrees.{AgreesSince, Before}
+use Rattle.smf_script.specs.Forgets.{HasForgotten as Forgot}
 use Rattle.smf_edge.specs.Answers.{Skills, children_state}
 use Rattle.smf_edge.specs.Ledgers.{Ledger}
 use Rattle.smf_edge.specs.Starts.{log_with}
@@ -14,8 +14,8 @@ use Rattle.smf_node.specs.declared.fault.NodeFault.{NodeFault}
 use Rattle.smf_node.specs.declared.fault.NodeFault.TheVariants.{Memory}
 use Rattle.smf_node.specs.Partly.{SettleFails}
 use Rattle.smf_node.specs.Rounds.{Course, HasSettled, at, course}
-use Rattle.smf_run.specs.Agreed.{AgreesOrDroppedSince}
-use Rattle.smf_run.specs.Scripts.{HasRun, Stops}
+use Rattle.smf_script.specs.Agreed.{AgreesOrDroppedSince}
+use Rattle.smf_script.specs.ScriptRuns.{HasRun, Stops}
 use Rattle.smf_script.specs.declared.fault.ScriptFault.{ScriptFault}
 use Rattle.smf_script.specs.declared.fault.ScriptFault.TheVariants.{Node}
 use Rattle.smf_script.specs.Script.{first_session}

@@ -4,7 +4,7 @@ ghost use Rattle.std.specs.Prelude.{◌≡◌, ℕ, List, Option, true};
 ghost use Rattle.smf_contract.specs.Begun.{table_of_found};
 ghost use Rattle.smf_contract.specs.declared.contract.Holder.TheVariants.{Held};
 ghost use Rattle.smf_contract.specs.declared.found.Found.{Found as AnyFound};
-ghost use Rattle.smf_drive.specs.Forgets.{AgreesAnew};
+ghost use Rattle.smf_script.specs.Forgets.{AgreesAnew};
 ghost use Rattle.smf_edge.specs.Answers.{Seen};
 ghost use Rattle.smf_edge.specs.Ledgers.{ledger_over};
 ghost use Rattle.smf_model.specs.Contents.{Holdings};

@@ -15,7 +15,7 @@ mod turns;
 pub use law::{a_continued_life_agrees, turns_follow};
 pub use life::{Life, MOST_TURNS, Unborn, Uncontinued, continue_over, stay_over};
 pub use server::Server;
-pub use smf_run::Leftover;
+pub use smf_script::Leftover;
 pub use smf_watch::{
     Chronicle, Desk, Ender, ItemCount, Noted, Onward, ServerInput, Size, Term, Timer, Troubles,
     Watch,

@@ -1,6 +1,6 @@
 ghost use Rattle.std.specs.Prelude.{◌≡◌, ◌≤◌, ◌||◌, ◌&&◌, not, List, [], ◌∷◌, Option, None, Some, length, map, nat_lt, false, true, IfErr, IfOk, OnErr, OnOk};
-ghost use Rattle.smf_drive.specs.Agrees.{AgreesSince, Before};
-ghost use Rattle.smf_drive.specs.Moves.{Moves};
+ghost use Rattle.smf_script.specs.Agrees.{AgreesSince, Before};
+ghost use Rattle.smf_script.specs.Moves.{Moves};
 ghost use Rattle.smf_edge.specs.Starts.{log_with};
 ghost use Rattle.smf_node.specs.declared.fault.NodeFault.TheVariants as nodes;
 ghost use Rattle.smf_script.specs.declared.fault.ScriptFault.TheVariants as scripts;
@@ -13,13 +13,11 @@ ghost use Rattle.smf_past.specs.Begun.{IsSafeSince};
 
 use crate::fault_texts::add_fault;
 use crate::server::Server;
-use smf_drive::drive;
 use smf_edge::Kids;
 use smf_fmri::{Items, Text};
 use smf_model::Journal;
 use smf_node::{Node, NodeFault};
-use smf_run::run_script;
-use smf_script::{ScriptFault, fault_text};
+use smf_script::{ScriptFault, drive, fault_text, run_script};
 use smf_watch::{
     Desk, Ender, Found, Onward, Remedy, ServerInput, Size, Timer, hear_all, is_same, lines_of,
     remedy_all, size_of,

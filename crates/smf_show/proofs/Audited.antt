@@ -2,9 +2,9 @@
 use Rattle.std.proofs.Common.{◌≡◌, ◌⊎◌, inl, inr, ℕ, ◌==◌, ◌&&◌, not, List, [], ◌∷◌, filter, Bool, true, false, cond, refl, sym, ap, ◌∙◌, subst}
 use Rattle.std.proofs.lemmas.Bool.{eq-eqb, eqb-true}
 use Rattle.std.specs.Prelude.{Option, Some, None}
-use Rattle.smf_audit.specs.Lives.{Always, HasOneLive, live_told}
-use Rattle.smf_audit.specs.declared.entry.Entry.{Entry}
-use Rattle.smf_audit.specs.declared.entry.Entry.TheVariants.{Happened, Life, Row, Living}
+use Rattle.smf_chronicle.specs.Lives.{Always, HasOneLive, live_told}
+use Rattle.smf_chronicle.specs.declared.entry.Entry.{Entry}
+use Rattle.smf_chronicle.specs.declared.entry.Entry.TheVariants.{Happened, Life, Row, Living}
 use Rattle.smf_world.specs.declared.item.Item.TheVariants.{Boot, Committed, Held, Spawned, Emptied}
 use Rattle.smf_world.specs.Safe.{IsLiveIn, LiveStart, OneEach, begun_start, is_start}
 use Rattle.smf_show.specs.declared.past.Dated.{Dated}

@@ -3,9 +3,9 @@ use Rattle.std.proofs.Common.{◌≡◌, ℕ, ◌==◌, ◌&&◌, not, List, [],
 use Rattle.std.proofs.lemmas.List.{append-nil}
 use Rattle.std.specs.List.{AllByRecursion}
 use Rattle.std.specs.Prelude.{Option, Some, None}
-use Rattle.smf_audit.proofs.Decided.{state_decides}
-use Rattle.smf_audit.specs.declared.entry.Entry.{Entry}
-use Rattle.smf_audit.specs.declared.entry.Entry.TheVariants.{Happened, Life, Row, Living}
+use Rattle.smf_chronicle.proofs.Decided.{state_decides}
+use Rattle.smf_chronicle.specs.declared.entry.Entry.{Entry}
+use Rattle.smf_chronicle.specs.declared.entry.Entry.TheVariants.{Happened, Life, Row, Living}
 use Rattle.smf_state.specs.declared.state.State.{State}
 use Rattle.smf_state.specs.Rows.{same_state}
 use Rattle.smf_world.specs.declared.item.Item.TheVariants.{Boot, Committed, Held, Spawned, Emptied}

@@ -3,7 +3,6 @@ use Rattle.std.proofs.Common.{◌≡◌, ◌≤◌, ◌<◌, ℕ, zero, suc, ◌
 use Rattle.std.proofs.lemmas.Bool.{le-ltb, lt-ltb, ltb-false, ltb-true}
 use Rattle.smf_show.specs.DateLaws.{IsDayOf, IsInItsYear, days_of}
 use Rattle.smf_show.specs.Dates.{year_behind, year_days, year_of}
-use Rattle.smf_show.specs.declared.dates.YearDay.{YearDay}
 
 pub year_passed : (n m year day : ℕ) → n ≡ suc m → year_days year ≤ day
     → year_behind n year day ≡ year_behind m (year + 1) (day - year_days year)

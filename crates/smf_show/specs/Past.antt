@@ -1,11 +1,11 @@
 -- What a chronicle tells of an instance. Its lines stand in the order in which they were written.
-use Rattle.std.specs.Prelude.{ℕ, ◌==◌, ◌&&◌, not, List, [], ◌∷◌, count_by, Bool, true, false, if◌then◌else◌, Option, Some, None}
-use Rattle.smf_audit.specs.declared.entry.Entry.{Entry}
-use Rattle.smf_audit.specs.declared.entry.Entry.TheVariants.{Happened, Life, Row, Living}
+use Rattle.std.specs.Prelude.{ℕ, ◌==◌, ◌&&◌, not, List, [], ◌∷◌, count_by, Bool, false, if◌then◌else◌, Option, Some, None}
+use Rattle.smf_chronicle.specs.declared.entry.Entry.{Entry}
+use Rattle.smf_chronicle.specs.declared.entry.Entry.TheVariants.{Happened, Life, Row, Living}
 use Rattle.smf_state.specs.declared.state.State.{State}
 use Rattle.smf_state.specs.Rows.{same_state}
 use Rattle.smf_world.specs.declared.item.Item.{Item}
-use Rattle.smf_world.specs.declared.item.Item.TheVariants.{Boot, Committed, Held, Spawned, Emptied}
+use Rattle.smf_world.specs.declared.item.Item.TheVariants.{Boot, Committed, Spawned, Emptied}
 use Rattle.smf_world.specs.Safe.{is_start}
 use Rattle.smf_show.specs.declared.past.Dated.{Dated}
 use Rattle.smf_show.specs.declared.past.Past.{Past}

@@ -1,9 +1,9 @@
 -- What it means that a chronicle tells something of an instance.
 use Rattle.std.specs.List.{AllByRecursion}
 use Rattle.std.specs.Prelude.{◌≡◌, ◌⊎◌, ℕ, ◌==◌, ◌&&◌, List, [], ◌∷◌, ◌++◌, Bool, true, false, if◌then◌else◌, Option, Some, None}
-use Rattle.smf_audit.specs.declared.entry.Entry.{Entry}
-use Rattle.smf_audit.specs.declared.entry.Entry.TheVariants.{Happened, Life, Living}
-use Rattle.smf_audit.specs.Lives.{Always, HasOneLive, live_told}
+use Rattle.smf_chronicle.specs.declared.entry.Entry.{Entry}
+use Rattle.smf_chronicle.specs.declared.entry.Entry.TheVariants.{Happened, Life, Living}
+use Rattle.smf_chronicle.specs.Lives.{Always, HasOneLive, live_told}
 use Rattle.smf_state.specs.declared.state.State.{State}
 use Rattle.smf_world.specs.declared.item.Item.{Item}
 use Rattle.smf_world.specs.declared.item.Item.TheVariants.{Boot, Spawned, Emptied}

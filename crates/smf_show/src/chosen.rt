@@ -10,7 +10,7 @@ ghost use Rattle.smf_show.specs.TableRows.{by_row, row_of_item, table_rows};
 
 use crate::row::{DatedChronicle, TableRow, row_of};
 use crate::shown::{Configured, Shown};
-use smf_database::{is_named, patterns_of};
+use smf_admin::{is_named, patterns_of};
 use smf_fmri::{InstanceFmri, Items, Ordered, Pattern, Text};
 use smf_model::{Journal, Plain, Snapshot};
 use smf_state::ViewItem;

@@ -5,10 +5,9 @@ ghost use Rattle.smf_state.specs.Rows.{same_state};
 ghost use Rattle.smf_world.specs.Safe.{is_start};
 ghost use Rattle.smf_show.specs.Past.{begun, contract_in, is_start_item, is_start_of, live_behind, live_behind_item, past_of, standing_if, standing_in, standing_with, starts_in, state_committed, state_told, unless_emptied};
 
-use smf_audit::Entry;
-use smf_contract::Method;
+use smf_chronicle::Entry;
 use smf_state::State;
-use smf_world::Item;
+use smf_world::{Item, is_start};
 
 /// An entry of a chronicle, and when it was written, in milliseconds since 1970.
 #[derive(Drop)]
@@ -112,16 +111,6 @@ fn standing_in(instance: u64, lines: &[Dated]) -> Standing
 }
 
 // ---- its starts
-
-fn is_start(method: Method) -> bool
-    ensures { result ≡ is_start method }
-{
-    match method {
-        Method::Start => true,
-        Method::Stop => false,
-        Method::Refresh => false,
-    }
-}
 
 fn is_start_item(instance: u64, item: &Item) -> bool
     ensures { result ≡ is_start_item instance item.now }

@@ -1,13 +1,14 @@
 //! Tables of instances.
 
 ghost use Rattle.std.specs.List.{flat_map, list_any};
-ghost use Rattle.std.specs.Prelude.{◌≡◌, ◌++◌, length, replicate, IfOk, OnOk, string_bytes};
+ghost use Rattle.std.specs.Prelude.{◌≡◌, ◌++◌, length, IfOk, OnOk, string_bytes};
 ghost use Rattle.smf_show.specs.Columns.{header_word, starred_cell, tells_next};
 ghost use Rattle.smf_show.specs.Tables.{first_width, has_stars, header_line, later_cells, line_of, lines_at, place_of, places_of, row_line, rows_of, table_of, table_text, width_of};
 
 use crate::columns::{Column, cell_len, put_cell};
 use crate::row::TableRow;
 use crate::rows::{SortKey, rows_run_by, sorted_rows};
+use smf_admin::put_blanks;
 use smf_fmri::{InstanceFmri, Items, Ordered, Text};
 use std::alloc::{AllocError, Global};
 
@@ -73,15 +74,6 @@ fn places_of(
 }
 
 // ---- lines
-
-fn put_blanks(out: &mut String, count: usize) -> Result<(), AllocError>
-    ensures { OnOk result (string_bytes out.new ≡ string_bytes out.old ++ replicate count 32) }
-{
-    for _ in 0..count {
-        out.push(' ')?;
-    }
-    Ok(())
-}
 
 /// Puts the cells of a row after the first one, which is so many blanks short.
 fn put_later_cells(

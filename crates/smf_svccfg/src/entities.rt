@@ -9,8 +9,7 @@ ghost use Rattle.smf_svccfg.specs.Judged.{Gives, above, above_instance, child, e
 use crate::fault::CfgFault;
 use crate::selection::Selection;
 use smf_fmri::{Fmri, FmriFault, InstanceFmri, Number, ServiceFmri};
-use smf_model::Owner;
-use smf_repo::Client;
+use smf_model::{Client, Owner};
 use std::alloc::{AllocError, Global};
 
 /// The service that a text names in the short form, or none if it names none so.

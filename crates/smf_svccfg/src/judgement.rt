@@ -17,8 +17,7 @@ use crate::output::{
 };
 use crate::selection::{Judged, Selection};
 use smf_fmri::{Number, ServiceFmri, Text};
-use smf_model::{Edit, Owner, PropertyChange};
-use smf_repo::Client;
+use smf_model::{Client, Edit, Owner, PropertyChange};
 use smf_snap::SnapshotName;
 use smf_value::Name;
 use std::alloc::{AllocError, Global};

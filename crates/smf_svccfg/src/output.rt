@@ -12,8 +12,7 @@ ghost use Rattle.smf_svccfg.specs.Listed.{before_instances, children_text, compo
 use crate::quotes::quoted_text;
 use crate::selection::Selection;
 use smf_fmri::{Items, Number, Ordered, ServiceFmri, Table, Text, strip};
-use smf_model::{InstanceName, Owner, Service, Snapshot};
-use smf_repo::Client;
+use smf_model::{Client, InstanceName, Owner, Service, Snapshot};
 use smf_snap::SnapshotName;
 use smf_value::{Group, Property, Value};
 use std::alloc::{AllocError, Global};

@@ -9,3 +9,4 @@ pub mod Formed
 pub mod Spelled
 pub mod Schedule
 pub mod MustStop
+pub mod TrailText

@@ -1,3 +1,6 @@
+ghost use Rattle.std.specs.Prelude.{◌≡◌};
+ghost use Rattle.smf_world.specs.Safe.{is_start};
+
 use smf_contract::Method;
 use smf_fmri::InstanceFmri;
 use smf_method::CommandText;
@@ -34,4 +37,15 @@ pub enum Item {
     /// A contract was first found empty.
     Emptied(u64),
     Boot,
+}
+
+/// True for the method whose contract is a live start until it is empty.
+pub fn is_start(method: Method) -> bool
+    ensures { result ≡ is_start method }
+{
+    match method {
+        Method::Start => true,
+        Method::Stop => false,
+        Method::Refresh => false,
+    }
 }

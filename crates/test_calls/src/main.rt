@@ -1,9 +1,9 @@
 //! `test_calls`: reads lines that each name a call of the pure crates with its arguments, and prints what it answers.
-//! With the word `inputs` it reads inputs of a restarter, and with the word `why` configured services and states.
+//! With the word `inputs` it reads inputs of a restarter.
 //! Modules: `families` (the family of a line). The families are `names`, `rows`, `steps`, `fields`, `values`,
 //! `groups`, `snapshots`, `contracts`, `cookies`, `methods`, `dependencies`, `config`, `views`, `refusals`,
 //! `repository` and `lines` (messages). They share `calls`, `events`, `bytes`, `words` and `answers` (the text of an
-//! answer). The other two forms are `inputs` and `whys`.
+//! answer). The other form is `inputs`.
 #![tactic(auto)]
 
 mod answers;
@@ -28,13 +28,11 @@ mod snapshots;
 mod steps;
 mod values;
 mod views;
-mod whys;
 mod words;
 
 use crate::answers::Answer;
 use crate::families::{Session, answer};
 use crate::inputs::answer_inputs;
-use crate::whys::answer_whys;
 use std::alloc::Global;
 use std::io::{BufRead, BufReader};
 use std::process::ExitCode;
@@ -120,7 +118,6 @@ fn run(rt: &HostRuntime, alloc: Global) -> Result<(), RunFault> {
     let form = form_of(rt, alloc)?;
     match form.as_str() {
         "inputs" => answer_inputs(rt, alloc).map_err(|_| RunFault::Memory),
-        "why" => answer_whys(rt, alloc).map_err(|_| RunFault::Memory),
         _ => answer_all(rt, alloc, &mut Session::new(alloc)),
     }
 }

@@ -3,8 +3,7 @@
 use crate::answers::Answer;
 use crate::values::kind_of;
 use smf_fmri::Text;
-use smf_model::CommandReply;
-use smf_repo::refusal_text;
+use smf_model::{CommandReply, refusal_text};
 use smf_state::Why;
 use smf_value::GroupFault;
 use std::alloc::{AllocError, Global};

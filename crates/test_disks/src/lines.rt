@@ -1,7 +1,7 @@
 use smf_admin::{Asked, commands_of};
-use smf_cfg::{SessionFault, run_line};
 use smf_fmri::{InstanceFmri, Items, strip};
 use smf_model::{Command, Journal, Plain};
+use smf_script::{SessionFault, do_cfg_line};
 use smf_svccfg::{Selection, words};
 use smf_wire::{Message, decode};
 use std::alloc::Global;
@@ -65,7 +65,7 @@ pub(crate) fn do_line<J: Journal>(
     if let Some(command) = command_of(alloc, line) {
         return give(repository, &command);
     }
-    match run_line(alloc, repository, selection, line) {
+    match do_cfg_line(alloc, repository, selection, line) {
         Err(SessionFault::Repo(_)) => false,
         _ => true,
     }

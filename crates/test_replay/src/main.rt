@@ -1,11 +1,11 @@
 //! `test_replay`: replays a text of events, one a line, on a node over a repository in memory, and prints what each
 //! refuses or shows. With the word `trace` it prints at its end what it gave to the node, line by line. With the word
 //! `script` it does a script in place of events, and one call fails. With the word `asked` it asks contracts. With the
-//! word `served` a server is asked the same again and again.
+//! word `served` a server is asked the same again and again. With the word `why` it reads configured services and states.
 //! Modules: `event` (a line's event), `safety` (the safety of a trail), `replay` (what a line does), `traces` (what
 //! the node is given), `fault`; `script` (a script of which a call fails), `failures` (children that fail), `streams` (a
 //! reader and a writer that fail), `journal` (a journal that fails); `asked` (contracts whose answers are written down);
-//! `serving` (a server).
+//! `serving` (a server); `whys` (why services do not run).
 #![tactic(auto)]
 
 mod asked;
@@ -19,12 +19,14 @@ mod script;
 mod serving;
 mod streams;
 mod traces;
+mod whys;
 
 use crate::asked::ask_contracts;
 use crate::fault::ReplayFault;
 use crate::replay::Replay;
 use crate::script::do_script;
 use crate::serving::serve;
+use crate::whys::answer_whys;
 use log::Log;
 use log::sink::Memory;
 use std::io::{BufRead, BufReader, Write};
@@ -102,11 +104,20 @@ fn run(rt: &HostRuntime) -> io::Result<u8> {
     match task_word(&words) {
         "script" => do_script(rt, &words),
         "served" => serve(rt, &words),
+        "why" => Ok(tell_whys(rt)),
         "asked" => {
             ask_contracts(rt)?;
             Ok(0)
         }
         task => Ok(run_replay(rt, task == "trace")),
+    }
+}
+
+/// Says why configured services do not run.
+fn tell_whys(rt: &HostRuntime) -> u8 {
+    match answer_whys(rt, rt.alloc()) {
+        Ok(()) => 0,
+        Err(_) => FAULT,
     }
 }
 

@@ -1,10 +1,8 @@
 // The first item of a trail that breaks what is safe: by the rules of chronicles, and two more of starts.
-use smf_audit::audit;
-use smf_chronicle::{ReadFault, read_lines};
+use smf_chronicle::{ReadFault, audit, read_lines};
 use smf_contract::Method;
 use smf_state::State;
-use smf_words::trail_text;
-use smf_world::Item;
+use smf_world::{Item, trail_text};
 use std::alloc::{AllocError, Global};
 
 /// The place of an item, and the rule that it breaks.

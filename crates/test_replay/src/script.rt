@@ -10,8 +10,7 @@ use smf_edge::Kids;
 use smf_lines::{LineReader, NotedReader, ReadFault, TextWriter};
 use smf_model::Plain;
 use smf_node::Node;
-use smf_run::{end_all, run_script};
-use smf_script::ScriptFault;
+use smf_script::{ScriptFault, end_all, run_script};
 use std::alloc::Global;
 use std::io::{self, BufReader, ErrorKind};
 

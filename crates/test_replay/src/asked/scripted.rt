@@ -1,6 +1,5 @@
 // Contracts whose answers are written down.
-use smf_edge::Start;
-use smf_follow::{Contracts, FirstEnd, Stand};
+use smf_edge::{Contracts, FirstEnd, Stand, Start};
 use std::alloc::Global;
 use std::io;
 

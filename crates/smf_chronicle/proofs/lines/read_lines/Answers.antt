@@ -1,5 +1,5 @@
 use Rattle.std.proofs.Common.{◌≡◌, List, ℕ, [], option_map, string_bytes, subst, sym, ◌∙◌, arith, rules}
-use Rattle.smf_audit.specs.declared.entry.Entry.{Entry}
+use Rattle.smf_chronicle.specs.declared.entry.Entry.{Entry}
 use Rattle.smf_chronicle.proofs.ManyLines.{IsReading, all_read, err_only, err_unlinked, filled, none_read, one_more, over, shorter}
 use Rattle.smf_chronicle.proofs.lines.read_lines.Goals as goal
 

@@ -1,5 +1,5 @@
 use Rattle.std.proofs.Common.{rules}
-use Rattle.smf_follow.specs.Phases.{posts}
+use Rattle.smf_edge.specs.Phases.{posts}
 use Rattle.smf_record.proofs.Finding.{ascend_push, found_push, kids_push}
 use Rattle.smf_record.proofs.children.children_of.Goals as goal
 

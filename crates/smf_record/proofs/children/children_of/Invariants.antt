@@ -1,7 +1,7 @@
 use Rattle.std.proofs.Common.{◌≡◌, map, take}
 use Rattle.smf_contract.specs.Laws.{Ascends}
-use Rattle.smf_follow.specs.Beginnings.{found_posts}
-use Rattle.smf_follow.specs.Phases.{posts}
+use Rattle.smf_edge.specs.FollowedBeginnings.{found_posts}
+use Rattle.smf_edge.specs.Phases.{posts}
 use Rattle.smf_record.proofs.children.children_of.Given as goal
 
 abbrev pub invariant-loop-one : goal.invariant-loop-one

@@ -1,5 +1,5 @@
 use Rattle.std.proofs.Common.{ap, refl}
-use Rattle.smf_drive.proofs.Agreement.{agree_moves}
+use Rattle.smf_script.proofs.Agreement.{agree_moves}
 use Rattle.smf_edge.specs.Answers.{children_state}
 use Rattle.smf_node.specs.Rounds.{course}
 use Rattle.smf_server.specs.Turns.{between}

@@ -1,5 +1,5 @@
 use Rattle.std.proofs.Common.{inl, inr}
-use Rattle.smf_drive.proofs.Moves.{moves_then}
+use Rattle.smf_script.proofs.Moves.{moves_then}
 use Rattle.smf_server.specs.Turns.{between}
 use Rattle.smf_server.proofs.Watching.{still_then}
 use Rattle.smf_watch.proofs.FaultExits.{passed_on}

@@ -1,5 +1,5 @@
 use Rattle.std.proofs.Common.{ap, inl, inr, ◌∙◌}
-use Rattle.smf_drive.proofs.Agreement.{agree_moves}
+use Rattle.smf_script.proofs.Agreement.{agree_moves}
 use Rattle.smf_server.specs.Turns.{between}
 use Rattle.smf_server.proofs.Marked.{look_fails_after, looks_after}
 use Rattle.smf_server.proofs.TurnSteps.{moved_later}

@@ -2,7 +2,7 @@ use Rattle.std.proofs.Common.{inl, inr, refl}
 use Rattle.smf_edge.specs.Answers.{children_state}
 use Rattle.smf_node.specs.Rounds.{course}
 use Rattle.smf_server.specs.Turns.{Standing, between}
-use Rattle.smf_drive.proofs.Moves.{moves_then}
+use Rattle.smf_script.proofs.Moves.{moves_then}
 use Rattle.smf_server.proofs.Late.{stopped_late, times_moved}
 use Rattle.smf_server.proofs.TurnSteps.{moved_later}
 use Rattle.smf_server.proofs.Watching.{still_same, still_then}

@@ -1,5 +1,5 @@
 use Rattle.std.proofs.Common.{◌∙◌, refl}
-use Rattle.smf_follow.specs.declared.stand.Stand.TheVariants.{Left, Runs}
+use Rattle.smf_edge.specs.declared.stand.Stand.TheVariants.{Left, Runs}
 use Rattle.smf_room.proofs.Hearing.{on_err}
 use Rattle.smf_keeper.proofs.Goes.{goes_then}
 use Rattle.smf_keeper.proofs.Made.{forget_same}

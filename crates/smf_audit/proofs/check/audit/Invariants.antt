@@ -1,5 +1,0 @@
-use Rattle.smf_audit.proofs.Passed.{IsPassed}
-use Rattle.smf_audit.proofs.check.audit.Given as goal
-
-abbrev pub invariant-loop-place : goal.invariant-loop-place
-invariant-loop-place l = IsPassed l.tables l.entries l.place

@@ -1,5 +1,0 @@
-use Rattle.smf_cfg.proofs.Progress.{ends_of_all}
-use Rattle.smf_cfg.proofs.outcomes.serve_cfg.Goals as goal
-
-pub returns-in-Ok-clause-ok : goal.returns-in-Ok-clause-ok
-returns-in-Ok-clause-ok g c = λ fine. ends_of_all _ _ _ _ _ _ _ _ c.in-Ok.ensures.ok

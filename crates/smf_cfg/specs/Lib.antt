@@ -1,3 +1,0 @@
-pub mod Sessions
-pub mod Runs
-pub mod Outcomes

@@ -1,5 +1,0 @@
-use Rattle.smf_database.proofs.Taken.{same_body}
-use Rattle.smf_database.proofs.configured.a_check_sees_what_a_refresh_takes.Goals as goal
-
-pub returns : goal.returns
-returns c = same_body

@@ -1,7 +1,0 @@
-use Rattle.std.proofs.Common.{◌≡◌, ◌++◌, drop, map}
-use Rattle.smf_database.specs.Reasons.{item_after_refresh}
-use Rattle.smf_database.proofs.configured.all_refreshed.Given as goal
-
-abbrev pub invariant-loop-item : goal.invariant-loop-item
-invariant-loop-item g l = l.all.items ++ map (item_after_refresh l.repository.held) (drop l.item-index l.items)
-    ≡ map (item_after_refresh l.repository.held) l.items

@@ -1,4 +1,0 @@
-pub mod Drives
-pub mod Moves
-pub mod Agrees
-pub mod Forgets

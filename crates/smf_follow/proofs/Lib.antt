@@ -1,6 +1,0 @@
-mod Sizes
-mod Preservation
-mod Places
-mod Polls
-mod Starts
-mod Beginnings

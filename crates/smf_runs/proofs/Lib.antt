@@ -1,0 +1,9 @@
+pub mod Excused
+pub mod Taken
+pub mod Told
+pub mod Asked
+pub mod Programs
+pub mod Closes
+pub mod Unlike
+pub mod Copied
+pub mod Ended

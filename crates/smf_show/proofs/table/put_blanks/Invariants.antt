@@ -1,5 +1,0 @@
-use Rattle.std.proofs.Common.{◌≡◌, ◌++◌, replicate, string_bytes}
-use Rattle.smf_show.proofs.table.put_blanks.Given as goal
-
-abbrev pub invariant-loop : goal.invariant-loop
-invariant-loop l = string_bytes l.out ≡ string_bytes l.fn.out ++ replicate l.counter 32
