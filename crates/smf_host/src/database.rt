@@ -5,7 +5,11 @@ use sqlite_std_file::File as DatabaseFile;
 use sqlite_store::FileStore;
 use std::fs::File;
 use std::rt::HostRuntime;
-use std::{fs, io};
+use std::time::Duration;
+use std::{fs, io, thread};
+
+/// So often the files are read while another program writes to them.
+const READINGS: u32 = 40;
 
 /// A log with no page in it, which a close leaves, has fewer bytes.
 const PAGE_IN_LOG: u64 = 64;
@@ -107,16 +111,24 @@ fn read_once(rt: &HostRuntime, database: &str) -> io::Result<FileBytes> {
     })
 }
 
-/// The bytes of a database file and of its log at one moment. Both are read twice. If another program writes to them,
-/// the two reads may differ, and then the database is in use.
+/// The bytes of two readings of a database file and of its log, one right after the other. None if another program wrote
+/// between them, so that they differ.
+fn read_twice(rt: &HostRuntime, database: &str) -> io::Result<Option<FileBytes>> {
+    let first = read_once(rt, database)?;
+    let second = read_once(rt, database)?;
+    let is_same = first.db.as_slice() == second.db.as_slice()
+        && first.log.as_slice() == second.log.as_slice();
+    Ok(if is_same { Some(first) } else { None })
+}
+
+/// The bytes of a database file and of its log at one moment. While another program, as a server, writes to them they are
+/// read again, for two seconds at most. Then the database is in use.
 pub fn read_files(rt: &HostRuntime, database: &str) -> Result<FileBytes, Error> {
-    let first = read_once(rt, database).map_err(|fault| read_fault(&fault))?;
-    let second = read_once(rt, database).map_err(|fault| read_fault(&fault))?;
-    if first.db.as_slice() == second.db.as_slice()
-        && first.log.as_slice() == second.log.as_slice()
-    {
-        Ok(first)
-    } else {
-        Err(Error::SqliteFailure(ErrorCode::DatabaseBusy))
+    for _ in 0..READINGS {
+        if let Some(found) = read_twice(rt, database).map_err(|fault| read_fault(&fault))? {
+            return Ok(found);
+        }
+        thread::sleep(rt, Duration::from_millis(2000 / u64::from(READINGS)));
     }
+    Err(Error::SqliteFailure(ErrorCode::DatabaseBusy))
 }
