@@ -11,3 +11,5 @@ pub mod Commands
 pub mod Runs
 pub mod WrongFields
 pub mod WrongParts
+pub mod CfgExamples
+pub mod ScriptExamples

@@ -3,12 +3,13 @@
 //! here.
 //! Modules: `places`, `lines` and `bodies` (the places at which texts and bytes are wrong), `waits` (parked instances),
 //! `quiet` (what runs if nothing is left to do); `dependencies` (dependency groups), `groups` (edits of a group), `composition` and `reverts` (the groups of an instance, by
-//! name), `methods` (commands), `steps` (runs).
+//! name), `methods` (commands), `steps` (runs); `examples` (how lines of svccfg and of scripts are read).
 #![tactic(auto)]
 
 mod bodies;
 mod composition;
 mod dependencies;
+mod examples;
 mod groups;
 mod lines;
 mod methods;
@@ -21,6 +22,7 @@ mod waits;
 pub use bodies::{bodies_are_wrong_at_a_field, snapshots_are_wrong_at_a_field};
 pub use composition::groups_are_composed_alike;
 pub use dependencies::groups_ask_what_they_say;
+pub use examples::{lines_of_scripts_ask_so, lines_of_svccfg_are_read_so};
 pub use groups::edits_make_the_stated_property;
 pub use lines::{rows_are_wrong_at_a_field, steps_are_wrong_at_a_field};
 pub use methods::{
